@@ -1,0 +1,49 @@
+-- What one pass of an offset over a sheet does, for erosion and dilation alike. Assumes nothing.
+use Prim.Native.Nat.{ℕ, _+_, _-_, _*_, _≤_, _<_, min, max}
+use mathlib.Core.Path.{_≡_}
+use mathlib.Core.Bool.{Bool, cond, _&&_}
+use mathlib.Core.List.{List}
+use lib.Dec.{leb, ltb}
+use lib.ListN.{getD}
+use Rattle.std.specs.declared.option.Option.{Option}
+use Rattle.std.specs.declared.option.Option.the-variants.{Some, None}
+use Rattle.morphology.specs.declared.operation.Operation.{Operation}
+use Rattle.morphology.specs.declared.operation.Operation.the-variants.{Erosion, Dilation}
+
+-- which of two heights an operation keeps
+abbrev pub extreme : Operation → ℕ → ℕ → ℕ
+extreme Erosion x y = min x y
+extreme Dilation x y = max x y
+
+-- An offset's side from −3 to 3 is told as a number from 0 to 6, three more than it.
+-- Dilation reads at the opposite offset.
+abbrev pub turned : Operation → ℕ → ℕ
+turned Erosion c = c
+turned Dilation c = 6 - c
+
+-- whether the neighbour c − 3 cells on lies on a side of that length
+abbrev pub on-side : ℕ → ℕ → ℕ → Bool
+on-side side x c = leb 3 (x + c) && ltb (x + c) (side + 3)
+
+-- the height at the neighbour of column m and row n that lies c − 3 columns and r − 3 rows on; outside counts as lowest
+abbrev pub neighbour : ℕ → ℕ → List ℕ → ℕ → ℕ → ℕ → ℕ → ℕ
+neighbour w h f c r m n = cond (on-side h n r && on-side w m c) (getD f ((n + r - 3) * w + (m + c - 3)) 0) 0
+
+-- the height that a run of cells from place t on reads at place p, where place t reads the sheet's place s
+abbrev pub in-run : List ℕ → ℕ → ℕ → ℕ → ℕ
+in-run f s t p = getD f (s + (p - t)) 0
+
+-- the height that place p of the row from base on reads: c − 3 columns on in the row from s on, or outside
+abbrev pub in-row : ℕ → List ℕ → ℕ → Option ℕ → ℕ → ℕ → ℕ
+in-row w f c None base p = 0
+in-row w f c (Some s) base p = cond (on-side w (p - base) c) (getD f (s + (p - base + c - 3)) 0) 0
+
+-- what lies outside the sheet is lowest
+abbrev pub outside : ℕ → ℕ
+outside p = 0
+
+-- each place p from a to b now has the extreme of its height and v p, and all others are as they were
+pub record Passed (op : Operation) (v : ℕ → ℕ) (was is : List ℕ) (a b : ℕ) : Type 0 where
+  pub inside : (p : ℕ) → a ≤ p → p < b → getD is p 0 ≡ extreme op (getD was p 0) (v p)
+  pub before : (p : ℕ) → p < a → getD is p 0 ≡ getD was p 0
+  pub after : (p : ℕ) → b ≤ p → getD is p 0 ≡ getD was p 0

@@ -1,12 +1,15 @@
 -- What one pass of an offset over a sheet does, for erosion and dilation alike. Assumes nothing.
-use Prim.Native.Nat.{ℕ, _+_, _-_, _*_, _≤_, _<_, min, max}
+use Prim.Native.Nat.{ℕ, _+_, _-_, _*_, _/_, _%_, _≤_, _<_, min, max}
 use mathlib.Core.Path.{_≡_}
 use mathlib.Core.Bool.{Bool, cond, _&&_}
-use mathlib.Core.List.{List}
+use mathlib.Core.List.{List, map}
 use lib.Dec.{leb, ltb}
+use lib.IntN.{ℤ, pos, _+ℤ_, _-ℤ_}
 use lib.ListN.{getD}
+use Rattle.std.specs.Iters.{folded}
 use Rattle.std.specs.declared.option.Option.{Option}
 use Rattle.std.specs.declared.option.Option.the-variants.{Some, None}
+use Rattle.morphology.specs.Sheets.{height-at}
 use Rattle.morphology.specs.declared.operation.Operation.{Operation}
 use Rattle.morphology.specs.declared.operation.Operation.the-variants.{Erosion, Dilation}
 
@@ -28,6 +31,15 @@ on-side side x c = leb 3 (x + c) && ltb (x + c) (side + 3)
 -- the height at the neighbour of column m and row n that lies c − 3 columns and r − 3 rows on; outside counts as lowest
 abbrev pub neighbour : ℕ → ℕ → List ℕ → ℕ → ℕ → ℕ → ℕ → ℕ
 neighbour w h f c r m n = cond (on-side h n r && on-side w m c) (getD f ((n + r - 3) * w + (m + c - 3)) 0) 0
+
+-- the height that an operation reads from column m and row n at the offset o
+abbrev pub reached : Operation → ℕ → ℕ → List ℕ → ℕ → ℕ → ℤ × ℤ → ℕ
+reached Erosion w h f m n o = height-at w h f (pos m +ℤ o .0) (pos n +ℤ o .1)
+reached Dilation w h f m n o = height-at w h f (pos m -ℤ o .0) (pos n -ℤ o .1)
+
+-- the extreme of a cell's own height and of all that the operation reads from it
+abbrev pub swept : Operation → ℕ → ℕ → List ℕ → List (ℤ × ℤ) → ℕ → ℕ
+swept op w h f offsets p = folded (extreme op) (getD f p 0) (map (reached op w h f (p % w) (p / w)) offsets)
 
 -- the height that a run of cells from place t on reads at place p, where place t reads the sheet's place s
 abbrev pub in-run : List ℕ → ℕ → ℕ → ℕ → ℕ

@@ -2,3 +2,4 @@
 pub mod operation;
 pub mod passes;
 pub mod runs;
+pub mod sweep;

@@ -1,5 +1,11 @@
 // Erosion and dilation of sheets of any level kind.
-pub mod operation;
-pub mod passes;
-pub mod runs;
-pub mod sweep;
+mod erosion;
+mod fault;
+mod operation;
+mod passes;
+mod runs;
+mod sweep;
+
+pub use erosion::dilate;
+pub use erosion::erode;
+pub use fault::SheetFault;

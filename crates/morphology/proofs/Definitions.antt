@@ -16,9 +16,9 @@ use Rattle.std.specs.Iters.{folded}
 use Rattle.elements.specs.Offsets.{flagged, offset-at}
 use Rattle.morphology.specs.declared.operation.Operation.{Operation}
 use Rattle.morphology.specs.declared.operation.Operation.the-variants.{Erosion, Dilation}
-use Rattle.morphology.specs.Sheets.{height-at, at-place, by-cells}
+use Rattle.morphology.specs.Sheets.{height-at, at-place}
 use Rattle.morphology.specs.Erosion.{erosion-at, dilation-at, greatest}
-use Rattle.morphology.specs.Passes.{extreme, reached, swept}
+use Rattle.morphology.specs.Passes.{extreme, operated, reached, swept}
 use Rattle.morphology.proofs.Extremes.{absorbs-right, absorbs-start, fold-is-least, fold-is-greatest}
 
 -- what is read at (0, 0) is the cell's own height
@@ -44,21 +44,22 @@ absorbs-flag op v a k (suc i) (b ∷ bs) held =
         true ↦ rw (← place) (absorbs-flag op v (extreme op a (v (offset-at k))) (k + 1) i bs held)
       | false ↦ rw (← place) (absorbs-flag op v a (k + 1) i bs held) ]
 
-module _ (w h : ℕ) (f : List ℕ) (flags : List Bool) (p : ℕ) (wide : 1 ≤ w) (on : p < w * h) (centre : getD flags 24 false ≡ true) where
-  pub swept-erosion : swept Erosion w h f (flagged 0 flags) p ≡ at-place w (erosion-at w h (flagged 0 flags) f) p
-  swept-erosion =
+module _ (w h : ℕ) (f : List ℕ) (flags : List Bool) (wide : 1 ≤ w) (centre : getD flags 24 false ≡ true) where
+  swept-erosion : (p : ℕ) → p < w * h → swept Erosion w h f (flagged 0 flags) p ≡ at-place w (erosion-at w h (flagged 0 flags) f) p
+  swept-erosion p on =
       let own = own-height Erosion w h f p wide on in
       let reach = reached Erosion w h f (p % w) (p / w) in
       let low = absorbs-flag Erosion reach (suc (getD f p 0)) 0 24 flags centre in
       fold-is-least (getD f p 0) (map reach (flagged 0 flags)) (omega arith)
 
-  pub swept-dilation : swept Dilation w h f (flagged 0 flags) p ≡ at-place w (dilation-at w h (flagged 0 flags) f) p
-  swept-dilation =
+  swept-dilation : (p : ℕ) → p < w * h → swept Dilation w h f (flagged 0 flags) p ≡ at-place w (dilation-at w h (flagged 0 flags) f) p
+  swept-dilation p on =
       let own = own-height Dilation w h f p wide on in
       let reach = reached Dilation w h f (p % w) (p / w) in
       let high = absorbs-flag Dilation reach 0 0 24 flags centre in
       fold-is-greatest (getD f p 0) (map reach (flagged 0 flags)) (omega arith)
 
--- a sheet whose cells are those of a function of the column and the row
-pub cells-are : (w h : ℕ) (cell : ℕ → ℕ → ℕ) (xs : List ℕ) → length xs ≡ w * h → ((p : ℕ) → p < w * h → getD xs p 0 ≡ at-place w cell p) → xs ≡ by-cells w h cell
-cells-are w h cell xs long at = fill-by-all (at-place w cell) xs (w * h) 0 long at
+  -- a list of w × h heights, each of them swept, is what the operation makes of the sheet
+  pub swept-operated : (op : Operation) (xs : List ℕ) → length xs ≡ w * h → ((p : ℕ) → p < w * h → getD xs p 0 ≡ swept op w h f (flagged 0 flags) p) → xs ≡ operated op w h (flagged 0 flags) f
+  swept-operated Erosion xs long at = fill-by-all (at-place w (erosion-at w h (flagged 0 flags) f)) xs (w * h) 0 long (λ p on. at p on ∙ swept-erosion p on)
+  swept-operated Dilation xs long at = fill-by-all (at-place w (dilation-at w h (flagged 0 flags) f)) xs (w * h) 0 long (λ p on. at p on ∙ swept-dilation p on)

@@ -9,6 +9,7 @@ use lib.ListN.{getD}
 use Rattle.std.specs.Iters.{folded}
 use Rattle.std.specs.declared.option.Option.{Option}
 use Rattle.std.specs.declared.option.Option.the-variants.{Some, None}
+use Rattle.morphology.specs.Erosion.{eroded, dilated}
 use Rattle.morphology.specs.Sheets.{height-at}
 use Rattle.morphology.specs.declared.operation.Operation.{Operation}
 use Rattle.morphology.specs.declared.operation.Operation.the-variants.{Erosion, Dilation}
@@ -17,6 +18,11 @@ use Rattle.morphology.specs.declared.operation.Operation.the-variants.{Erosion
 abbrev pub extreme : Operation → ℕ → ℕ → ℕ
 extreme Erosion x y = min x y
 extreme Dilation x y = max x y
+
+-- what an operation makes of a sheet
+abbrev pub operated : Operation → ℕ → ℕ → List (ℤ × ℤ) → List ℕ → List ℕ
+operated Erosion = eroded
+operated Dilation = dilated
 
 -- An offset's side from −3 to 3 is told as a number from 0 to 6, three more than it.
 -- Dilation reads at the opposite offset.

@@ -8,4 +8,6 @@ mod sweep;
 
 pub use erosion::dilate;
 pub use erosion::erode;
+pub use erosion::operate;
 pub use fault::SheetFault;
+pub use operation::Operation;

@@ -4,9 +4,9 @@ ghost use Rattle.morphology.specs.Passes.{extreme, turned};
 ghost use Prim.Native.Nat.{_≤_};
 use levels::level::Level;
 
-/// Erosion keeps the lower of two levels, dilation the higher.
+/// One of the two operations: erosion keeps the lower of two levels, dilation the higher.
 #[derive(Clone, Copy)]
-pub(crate) enum Operation {
+pub enum Operation {
     Erosion,
     Dilation,
 }

@@ -1,0 +1,71 @@
+-- The calls on the bench: what each refuses, in the order of its table, and what it leaves. Assumes nothing.
+use Prim.Native.Nat.{ℕ, _+_, _*_}
+use mathlib.Core.Bool.{Bool, true, false, cond, not, _&&_, _||_}
+use mathlib.Core.List.{List, []}
+use lib.Dec.{eqb, leb}
+use Rattle.std.specs.Options.{isSome}
+use Rattle.std.specs.declared.option.Option.{Option}
+use Rattle.std.specs.declared.option.Option.the-variants.{Some, None}
+use Rattle.std.specs.declared.result.Result.{Result}
+use Rattle.std.specs.declared.result.Result.the-variants.{Ok, Err}
+use Rattle.morphology.specs.Sheets.{lawful-side}
+use Rattle.bench.specs.declared.fault.Fault.{Fault}
+use Rattle.bench.specs.declared.fault.Fault.the-variants.{Side, Places, Memory, Picture, SheetPlace, Flat, NoVisit, VisitOpen, OtherFlat, EmptySheet, Unequal}
+use Rattle.bench.specs.Faults.{first}
+use Rattle.bench.specs.Model.{Outline, State, is-place}
+
+-- the answer of a call that tells nothing but its refusal
+abbrev pub told : Option Fault → Result (Unit {0}) Fault
+told None = Ok tt
+told (Some fault) = Err fault
+
+-- what a call leaves: the state as it was where it is refused, and else the new one
+abbrev pub unless : {S : Type 0} → Option Fault → S → S → S
+unless None new old = new
+unless (Some fault) new old = old
+
+-- Sizes: sides 1 to 1,024, then 1 to 12 places, then memory of exactly (places + per) × w × h cells, where `per` counts
+-- the working planes, two for a rack and none for a slate.
+abbrev pub sizes-refusal : ℕ → ℕ → ℕ → ℕ → ℕ → Option Fault
+sizes-refusal per w h places len =
+    first (not (lawful-side w && lawful-side h)) Side
+    (first (not (leb 1 places && leb places 12)) Places
+    (first (not (eqb len ((places + per) * (w * h)))) Memory None))
+
+-- every place empty, and no visit open
+abbrev pub opened : {X : Type 0} → ℕ → ℕ → ℕ → State X
+opened w h places = record {
+  outline = record { w = w; h = h; places = places; visit = None; filled = λ k. false };
+  content = λ k. [];
+}
+
+-- the state after opening: wrong sizes open with sides 0 and no places
+abbrev pub opening : {X : Type 0} → ℕ → ℕ → ℕ → ℕ → ℕ → State X
+opening per w h places len = unless (sizes-refusal per w h places len) (opened w h places) (opened 0 0 0)
+
+-- the state with something else in place k, which is then filled
+abbrev pub stored : {X : Type 0} → State X → ℕ → List X → State X
+stored s k cells = record {
+  outline = record {
+    w = s .outline .w;
+    h = s .outline .h;
+    places = s .outline .places;
+    visit = s .outline .visit;
+    filled = λ j. cond (eqb j k) true (s .outline .filled j);
+  };
+  content = λ j. cond (eqb j k) cells (s .content j);
+}
+
+-- load: the picture's length, then the place, then the visit
+abbrev pub load-refusal : Outline → ℕ → ℕ → Option Fault
+load-refusal o k len =
+    first (not (eqb len (o .w * o .h))) Picture
+    (first (not (is-place (o .places) k)) SheetPlace
+    (first (not (isSome (o .visit))) NoVisit None))
+
+-- a call from the sheet in one place to another: the places, then the visit, then the source
+abbrev pub transform-refusal : Outline → ℕ → ℕ → Option Fault
+transform-refusal o from to =
+    first (not (is-place (o .places) from && is-place (o .places) to)) SheetPlace
+    (first (not (isSome (o .visit))) NoVisit
+    (first (not (o .filled from)) EmptySheet None))

@@ -1,0 +1,4 @@
+pub mod Flags
+pub mod Faults
+pub mod Model
+pub mod Calls

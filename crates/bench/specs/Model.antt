@@ -1,0 +1,60 @@
+-- The state of a rack or a slate, as its users know it. Assumes nothing.
+use Prim.Native.Nat.{ℕ, _+_, _-_, _*_}
+use mathlib.Core.Bool.{Bool, false, cond, _&&_}
+use mathlib.Core.List.{List, []}
+use lib.Dec.{eqb, leb}
+use lib.ListN.{length, getD, take, drop}
+use Rattle.std.specs.declared.option.Option.{Option}
+use Rattle.bench.specs.declared.marks.Marks.{Marks}
+
+-- The outline of a rack or a slate: its sides, how many places it has, the flat of the open visit or none, and which
+-- places, counted from 1, are filled. Every refusal is told from outlines alone.
+pub record Outline : Type 0 where
+  pub w : ℕ
+  pub h : ℕ
+  pub places : ℕ
+  pub visit : Option ℕ
+  pub filled : ℕ → Bool
+
+-- The outline and what each place holds: for a rack a sheet of heights, for a slate the cells of a tally, and nothing
+-- where the place is empty.
+pub record State (X : Type 0) : Type 0 where
+  pub outline : Outline
+  pub content : ℕ → List X
+
+-- whether k is one of that many places, counted from 1
+abbrev pub is-place : ℕ → ℕ → Bool
+is-place places k = leb 1 k && leb k places
+
+-- where the cells of place k begin, and which they are, where each place has so many cells
+abbrev pub place-start : ℕ → ℕ → ℕ
+place-start cells k = (k - 1) * cells
+
+abbrev pub cells-of : {X : Type 0} → ℕ → ℕ → List X → List X
+cells-of cells k memory = take cells (drop (place-start cells k) memory)
+
+-- the outline that marks stand for, with that many places
+abbrev pub outline-of : Marks → ℕ → Outline
+outline-of m places = record {
+  w = m .w;
+  h = m .h;
+  places = places;
+  visit = m .visit;
+  filled = λ k. is-place places k && getD (m .filled) (k - 1) false;
+}
+
+-- the state that marks and memory stand for, with that many places
+abbrev pub state-of : {X : Type 0} → Marks → ℕ → List X → State X
+state-of m places memory = record {
+  outline = outline-of m places;
+  content = λ k. cond (outline-of m places .filled k) (cells-of (m .w * m .h) k memory) [];
+}
+
+-- How many places there are in memory of `sheets` cells with working planes of `planes` cells, of which a place has
+-- two for a rack and none for a slate. Memory of another size than the marks tell has no places.
+abbrev pub places-in : Marks → ℕ → ℕ → ℕ → ℕ
+places-in m per sheets planes = cond (eqb sheets (m .places * (m .w * m .h)) && eqb planes (per * (m .w * m .h))) (m .places) 0
+
+-- a rack, by its marks, the heights of its sheets and the length of its working planes
+abbrev pub rack-state : Marks → List ℕ → ℕ → State ℕ
+rack-state m sheets planes = state-of m (places-in m 2 (length sheets) planes) sheets

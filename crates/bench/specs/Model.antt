@@ -3,6 +3,7 @@ use Prim.Native.Nat.{ℕ, _+_, _-_, _*_}
 use mathlib.Core.Bool.{Bool, false, cond, _&&_}
 use mathlib.Core.List.{List, []}
 use lib.Dec.{eqb, leb}
+use lib.IntN.{ℤ}
 use lib.ListN.{length, getD, take, drop}
 use Rattle.std.specs.declared.option.Option.{Option}
 use Rattle.bench.specs.declared.marks.Marks.{Marks}
@@ -58,3 +59,7 @@ places-in m per sheets planes = cond (eqb sheets (m .places * (m .w * m .h)) && 
 -- a rack, by its marks, the heights of its sheets and the length of its working planes
 abbrev pub rack-state : Marks → List ℕ → ℕ → State ℕ
 rack-state m sheets planes = state-of m (places-in m 2 (length sheets) planes) sheets
+
+-- a slate, by its marks and the cells of its tallies
+abbrev pub slate-state : Marks → List ℤ → State ℤ
+slate-state m tallies = state-of m (places-in m 0 (length tallies) 0) tallies

@@ -3,6 +3,10 @@ mod fault;
 mod marks;
 mod rack;
 mod sizes;
+mod slate;
 
 pub use fault::Fault;
 pub use rack::Rack;
+pub use sizes::check_rack;
+pub use sizes::check_slate;
+pub use slate::Slate;

@@ -1,12 +1,15 @@
 // The rack: sheets of one level kind in lent memory.
-ghost use mathlib.Core.List.{_++_};
+ghost use mathlib.Core.List.{map, _++_};
 ghost use mathlib.Core.Path.{_≡_};
-ghost use Prim.Native.Nat.{_*_, _+_};
+ghost use lib.ListN.{length};
+ghost use Rattle.bench.specs.Calls.{opening};
+ghost use Rattle.bench.specs.Model.{rack-state};
 use crate::marks::Marks;
+use crate::sizes::opened_marks;
 use levels::level::Level;
 
-/// A rack holds its sheets in memory of their level kind that is lent to it: w × h levels for each place, and two
-/// working planes of as many.
+/// A rack holds its sheets in memory of their level kind that is lent to it: w × h levels for each place, and behind
+/// them two working planes of as many.
 #[derive(Drop)]
 pub struct Rack<'a, L> {
     sheets: &'a mut [L],
@@ -15,11 +18,14 @@ pub struct Rack<'a, L> {
 }
 
 impl<'a, L: Level> Rack<'a, L> {
+    /// Opens a rack: every place is empty, no visit is open and the memory is as it was.
+    /// Wrong sizes, which `check_rack` refuses, open it with sides 0 and no places.
     pub fn open(memory: &'a mut [L], w: usize, h: usize, places: usize) -> Rack<'a, L>
+        ensures state { λ r. ⌜ rack-state (r .marks) (map height (now (r .sheets))) (length (now (r .planes))) ≡ opening 2 w h places (length (now (memory .entry))) ⌝ }
         ensures memory { λ r. ⌜ now (r .sheets) ++ now (r .planes) ≡ now (memory .entry) ⌝ }
     {
-        let marks = Marks { w: 0, h: 0, places: 0, visit: None, filled: [false; 12] };
-        let (sheets, planes) = memory.split_at_mut(0);
+        let marks = opened_marks(2, w, h, places, memory.len());
+        let (sheets, planes) = memory.split_at_mut(marks.places * (marks.w * marks.h));
         Rack { sheets, planes, marks }
     }
 }

@@ -1,9 +1,10 @@
 // The sizes of a rack and of a slate, and the marks that they open with.
 ghost use mathlib.Core.Path.{_≡_};
 ghost use mathlib.Core.Bool.{false};
-ghost use Prim.Native.Nat.{_+_, _*_, _≤_};
+ghost use Prim.Native.Nat.{ℕ, _+_, _*_, _≤_};
 ghost use lib.ListN.{replicate};
 ghost use Rattle.bench.specs.Calls.{sizes-refusal, told, unless};
+ghost use Rattle.bench.specs.Model.{places-in};
 ghost use Rattle.std.specs.Results.{Cases};
 ghost use Rattle.std.specs.declared.option.Option.the-variants.{None};
 use crate::fault::Fault;
@@ -54,6 +55,8 @@ pub(crate) fn opened_marks(per: usize, w: usize, h: usize, places: usize, len: u
     ensures visit { λ r. ⌜ r .visit ≡ None ⌝ }
     ensures filled { λ r. ⌜ r .filled ≡ replicate 12 false ⌝ }
     ensures room { λ r. ⌜ r .places * (r .w * r .h) ≤ len ⌝ }
+    ensures held { λ r. ⌜ ((sheets planes : ℕ) → sheets ≡ r .places * (r .w * r .h) → planes + sheets ≡ len → places-in r per sheets planes ≡ r .places) ⌝ }
+    ensures whole { λ r. ⌜ (per ≡ 0 → places-in r 0 len 0 ≡ r .places) ⌝ }
 {
     let visit = None;
     let filled = [false; 12];

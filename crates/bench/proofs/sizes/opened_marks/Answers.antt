@@ -4,6 +4,7 @@ use native.Mathlib.Nat.{add-mul}
 use native.Mathlib.Omega.{arith}
 use borrow.Author.Needs.{needs}
 use Rattle.bench.proofs.Refusals.{refused-leaves, accepted-leaves}
+use Rattle.bench.proofs.Held.{held-all, held-whole, cond-same}
 use Rattle.bench.proofs.sizes.opened_marks.Needs as need
 
 pub returns : need.returns
@@ -16,6 +17,8 @@ returns c =
       visit = refl;
       filled = refl;
       room = omega (arith, c .in-Ok .ensures tt .sizes, add-mul (c .args .places) (c .args .per) (c .args .w * c .args .h));
+      held = held-all (c .args .places) (c .args .per) (c .args .w * c .args .h) (c .args .len) (c .in-Ok .ensures tt .sizes);
+      whole = held-whole (c .args .places) (c .args .per) (c .args .w * c .args .h) (c .args .len) (c .in-Ok .ensures tt .sizes);
     }
 
 pub returns-in-Err : need.returns-in-Err
@@ -28,4 +31,6 @@ returns-in-Err c =
       visit = refl;
       filled = refl;
       room = omega arith;
+      held = λ sheets planes _ _. cond-same _ 0;
+      whole = λ _. cond-same _ 0;
     }

@@ -1,12 +1,14 @@
 -- The state of a rack or a slate, as its users know it. Assumes nothing.
 use Prim.Native.Nat.{ℕ, _+_, _-_, _*_}
 use mathlib.Core.Bool.{Bool, false, cond, _&&_}
-use mathlib.Core.List.{List, []}
+use mathlib.Core.List.{List, [], map}
 use lib.Dec.{eqb, leb}
 use lib.IntN.{ℤ}
 use lib.ListN.{length, getD, take, drop}
 use Rattle.std.specs.declared.option.Option.{Option}
 use Rattle.bench.specs.declared.marks.Marks.{Marks}
+use Rattle.bench.specs.declared.rack.Rack.{Rack}
+use Rattle.bench.specs.declared.slate.Slate.{Slate}
 
 -- The outline of a rack or a slate: its sides, how many places it has, the flat of the open visit or none, and which
 -- places, counted from 1, are filled. Every refusal is told from outlines alone.
@@ -56,10 +58,10 @@ state-of m places memory = record {
 abbrev pub places-in : Marks → ℕ → ℕ → ℕ → ℕ
 places-in m per sheets planes = cond (eqb sheets (m .places * (m .w * m .h)) && eqb planes (per * (m .w * m .h))) (m .places) 0
 
--- a rack, by its marks, the heights of its sheets and the length of its working planes
-abbrev pub rack-state : Marks → List ℕ → ℕ → State ℕ
-rack-state m sheets planes = state-of m (places-in m 2 (length sheets) planes) sheets
+-- the state of a rack whose levels have these heights
+abbrev pub rack-state : {L : Type 0} → (L → ℕ) → Rack L → State ℕ
+rack-state height r = state-of (r .marks) (places-in (r .marks) 2 (length (r .sheets .now)) (length (r .planes .now))) (map height (r .sheets .now))
 
--- a slate, by its marks and the cells of its tallies
-abbrev pub slate-state : Marks → List ℤ → State ℤ
-slate-state m tallies = state-of m (places-in m 0 (length tallies) 0) tallies
+-- the state of a slate
+abbrev pub slate-state : Slate → State ℤ
+slate-state s = state-of (s .marks) (places-in (s .marks) 0 (length (s .tallies .now)) 0) (s .tallies .now)

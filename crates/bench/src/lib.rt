@@ -1,5 +1,6 @@
 // The bench: a rack of sheets and a slate of tallies in lent memory, and the visits on them.
 mod fault;
+mod marking;
 mod marks;
 mod rack;
 mod sizes;

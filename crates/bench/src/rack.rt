@@ -1,5 +1,5 @@
 // The rack: sheets of one level kind in lent memory.
-ghost use mathlib.Core.List.{map, _++_};
+ghost use mathlib.Core.List.{_++_};
 ghost use mathlib.Core.Path.{_≡_};
 ghost use lib.ListN.{length};
 ghost use Rattle.bench.specs.Calls.{opening};
@@ -21,7 +21,7 @@ impl<'a, L: Level> Rack<'a, L> {
     /// Opens a rack: every place is empty, no visit is open and the memory is as it was.
     /// Wrong sizes, which `check_rack` refuses, open it with sides 0 and no places.
     pub fn open(memory: &'a mut [L], w: usize, h: usize, places: usize) -> Rack<'a, L>
-        ensures state { λ r. ⌜ rack-state (r .marks) (map height (now (r .sheets))) (length (now (r .planes))) ≡ opening 2 w h places (length (now (memory .entry))) ⌝ }
+        ensures state { λ r. ⌜ rack-state height r ≡ opening 2 w h places (length (now (memory .entry))) ⌝ }
         ensures memory { λ r. ⌜ now (r .sheets) ++ now (r .planes) ≡ now (memory .entry) ⌝ }
     {
         let marks = opened_marks(2, w, h, places, memory.len());

@@ -17,7 +17,7 @@ impl<'a> Slate<'a> {
     /// Opens a slate: every place is empty, no visit is open and the memory is as it was.
     /// Wrong sizes, which `check_slate` refuses, open it with sides 0 and no places.
     pub fn open(memory: &'a mut [i32], w: usize, h: usize, places: usize) -> Slate<'a>
-        ensures state { λ r. ⌜ slate-state (r .marks) (now (r .tallies)) ≡ opening 0 w h places (length (now (memory .entry))) ⌝ }
+        ensures state { λ r. ⌜ slate-state r ≡ opening 0 w h places (length (now (memory .entry))) ⌝ }
         ensures memory { λ r. ⌜ now (r .tallies) ≡ now (memory .entry) ⌝ }
     {
         let marks = opened_marks(0, w, h, places, memory.len());

@@ -2,7 +2,6 @@ use Prim.Native.Nat.{_+_}
 use mathlib.Core.Path.{ap, _∙_}
 use lib.ListN.{length}
 use borrow.Author.Needs.{needs}
-use Rattle.std.proofs.shelf.Lists.{length-map}
 use Rattle.bench.proofs.Opened.{opening-state}
 use Rattle.bench.proofs.rack.Rack.open.Needs as need
 
@@ -13,6 +12,6 @@ returns g c =
     record {
       state = opening-state (c .opened-marks-marks .result) 2 (c .args .w) (c .args .h) (c .args .places) _ _ _
         (marks .w) (marks .h) (marks .places) (marks .visit) (marks .filled)
-        (marks .held _ _ (length-map _ _ ∙ cut .front-len) (ap (λ n. length (c .split-at-mut-sheets .result .1 .now) + n) (length-map _ _ ∙ cut .front-len) ∙ cut .back-len));
+        (marks .held _ _ (cut .front-len) (ap (λ n. length (c .split-at-mut-sheets .result .1 .now) + n) (cut .front-len) ∙ cut .back-len));
       memory = search needs;
     }

@@ -1,3 +1,4 @@
 pub mod Refusals
 pub mod Held
 pub mod Opened
+pub mod Stored

@@ -1,7 +1,7 @@
 -- The state of a rack or a slate, as its users know it. Assumes nothing.
 use Prim.Native.Nat.{ℕ, _+_, _-_, _*_}
 use mathlib.Core.Bool.{Bool, false, cond, _&&_}
-use mathlib.Core.List.{List, [], map}
+use mathlib.Core.List.{List, [], map, _++_}
 use lib.Dec.{eqb, leb}
 use lib.IntN.{ℤ}
 use lib.ListN.{length, getD, take, drop}
@@ -35,6 +35,10 @@ place-start cells k = (k - 1) * cells
 
 abbrev pub cells-of : {X : Type 0} → ℕ → ℕ → List X → List X
 cells-of cells k memory = take cells (drop (place-start cells k) memory)
+
+-- memory with other cells from a start on
+abbrev pub overwritten : {X : Type 0} → ℕ → List X → List X → List X
+overwritten start cells memory = take start memory ++ (cells ++ drop (start + length cells) memory)
 
 -- the outline that marks stand for, with that many places
 abbrev pub outline-of : Marks → ℕ → Outline

@@ -1,4 +1,5 @@
 pub mod Refusals
 pub mod Held
+pub mod Memory
 pub mod Opened
 pub mod Stored

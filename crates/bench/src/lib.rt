@@ -2,6 +2,7 @@
 mod fault;
 mod marking;
 mod marks;
+mod planes;
 mod rack;
 mod sizes;
 mod slate;

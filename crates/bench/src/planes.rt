@@ -1,0 +1,34 @@
+// Work on the cells of places and working planes, in the slices that a rack or a slate was lent.
+ghost use mathlib.Core.List.{map};
+ghost use mathlib.Core.Path.{_≡_};
+ghost use Prim.Native.Nat.{_+_, _*_, _≤_};
+ghost use lib.ListN.{length, take, drop};
+ghost use Rattle.bench.specs.Model.{overwritten};
+ghost use Rattle.elements.specs.Elements.{offsets};
+ghost use Rattle.morphology.specs.Passes.{operated};
+use elements::Element;
+use levels::level::Level;
+use morphology::Operation;
+use morphology::operate;
+
+// Writes cells from a start on.
+pub(crate) fn store<L: Copy>(memory: &mut [L], start: usize, cells: &[L])
+    requires { ⌜ start + length (now cells) ≤ length (now memory) ⌝ }
+    ensures { λ _. ⌜ now (memory .exit) ≡ overwritten start (now (cells .entry)) (now (memory .entry)) ⌝ }
+{
+    memory[start..start + cells.len()].copy_from_slice(cells);
+}
+
+// Writes what an operation makes of the sheet from one start to the cells from another, by way of a working plane.
+pub(crate) fn operate_place<L: Level>(op: Operation, sheets: &mut [L], planes: &mut [L], w: usize, h: usize, from: usize, to: usize, element: &Element)
+    requires sides { ⌜ 1 ≤ w ⌝ ∗ ⌜ w ≤ 1024 ⌝ ∗ ⌜ 1 ≤ h ⌝ ∗ ⌜ h ≤ 1024 ⌝ }
+    requires source { ⌜ from + w * h ≤ length (now sheets) ⌝ }
+    requires target { ⌜ to + w * h ≤ length (now sheets) ⌝ }
+    requires plane { ⌜ w * h ≤ length (now planes) ⌝ }
+    ensures { λ _. ⌜ map height (now (sheets .exit)) ≡ overwritten to (operated op w h (offsets (now (element .entry))) (take (w * h) (drop from (map height (now (sheets .entry)))))) (map height (now (sheets .entry))) ⌝ }
+{
+    let cells = w * h;
+    let plane = &mut planes[0..cells];
+    let _ = operate(op, &sheets[from..from + cells], plane, w, h, element);
+    store(sheets, to, plane);
+}

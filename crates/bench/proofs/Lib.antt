@@ -3,3 +3,4 @@ pub mod Held
 pub mod Memory
 pub mod Opened
 pub mod Stored
+pub mod Racked

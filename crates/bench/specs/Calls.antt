@@ -3,12 +3,16 @@ use Prim.Native.Nat.{ℕ, _+_, _*_}
 use mathlib.Core.Bool.{Bool, true, false, cond, not, _&&_, _||_}
 use mathlib.Core.List.{List, []}
 use lib.Dec.{eqb, leb}
+use lib.IntN.{ℤ}
+use lib.ListN.{length}
 use Rattle.std.specs.Options.{isSome}
 use Rattle.std.specs.declared.option.Option.{Option}
 use Rattle.std.specs.declared.option.Option.the-variants.{Some, None}
 use Rattle.std.specs.declared.result.Result.{Result}
 use Rattle.std.specs.declared.result.Result.the-variants.{Ok, Err}
 use Rattle.morphology.specs.Sheets.{lawful-side}
+use Rattle.morphology.specs.Passes.{operated}
+use Rattle.morphology.specs.declared.operation.Operation.{Operation}
 use Rattle.bench.specs.declared.fault.Fault.{Fault}
 use Rattle.bench.specs.declared.fault.Fault.the-variants.{Side, Places, Memory, Picture, SheetPlace, Flat, NoVisit, VisitOpen, OtherFlat, EmptySheet, Unequal}
 use Rattle.bench.specs.Faults.{first}
@@ -63,9 +67,18 @@ load-refusal o k len =
     (first (not (is-place (o .places) k)) SheetPlace
     (first (not (isSome (o .visit))) NoVisit None))
 
+abbrev pub load-leaves : State ℕ → ℕ → List ℕ → State ℕ
+load-leaves s k picture = unless (load-refusal (s .outline) k (length picture)) (stored s k picture) s
+
 -- a call from the sheet in one place to another: the places, then the visit, then the source
 abbrev pub transform-refusal : Outline → ℕ → ℕ → Option Fault
 transform-refusal o from to =
     first (not (is-place (o .places) from && is-place (o .places) to)) SheetPlace
     (first (not (isSome (o .visit))) NoVisit
     (first (not (o .filled from)) EmptySheet None))
+
+-- erode and dilate
+abbrev pub operate-leaves : Operation → State ℕ → List (ℤ × ℤ) → ℕ → ℕ → State ℕ
+operate-leaves op s offsets from to =
+    unless (transform-refusal (s .outline) from to)
+    (stored s to (operated op (s .outline .w) (s .outline .h) offsets (s .content from))) s

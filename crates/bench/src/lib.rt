@@ -4,6 +4,7 @@ mod marking;
 mod marks;
 mod planes;
 mod rack;
+mod sheets;
 mod sizes;
 mod slate;
 

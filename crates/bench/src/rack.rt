@@ -12,9 +12,9 @@ use levels::level::Level;
 /// them two working planes of as many.
 #[derive(Drop)]
 pub struct Rack<'a, L> {
-    sheets: &'a mut [L],
-    planes: &'a mut [L],
-    marks: Marks,
+    pub(crate) sheets: &'a mut [L],
+    pub(crate) planes: &'a mut [L],
+    pub(crate) marks: Marks,
 }
 
 impl<'a, L: Level> Rack<'a, L> {

@@ -4,11 +4,17 @@ use mathlib.Core.Path.{_≡_, refl, sym, ap, _∙_}
 use mathlib.Core.List.{List, map, _++_}
 use native.Mathlib.Omega.{arith}
 use borrow.Rule.Slice.PartMut.{putMid}
+use lib.IntN.{ℤ}
 use lib.ListN.{length, take, drop}
+use Rattle.std.proofs.shelf.Counted.{length-map-counting}
 use Rattle.std.proofs.shelf.Lists.{drop-drop, map-append, take-map, drop-map, length-map}
 use Rattle.std.proofs.shelf.Tests.{le-leb, eq-eqb}
 use Rattle.std.specs.declared.result.Result.the-variants.{Ok}
-use Rattle.morphology.specs.Sheets.{sheets-answer}
+use Rattle.morphology.specs.declared.operation.Operation.{Operation}
+use Rattle.morphology.specs.declared.operation.Operation.the-variants.{Erosion, Dilation}
+use Rattle.morphology.specs.Erosion.{erosion-at, dilation-at}
+use Rattle.morphology.specs.Passes.{operated}
+use Rattle.morphology.specs.Sheets.{at-place, sheets-answer}
 use Rattle.bench.specs.Model.{overwritten}
 
 -- a write to a part of a slice
@@ -34,3 +40,8 @@ pub heights-of-part : {X : Type 0} (height : X → ℕ) (start n : ℕ) (memory 
 heights-of-part height start n memory =
     let count : start + n - start ≡ n = omega arith in
     ap (λ k. map height (take k (drop start memory))) count ∙ sym (take-map height n (drop start memory)) ∙ ap (take n) (sym (drop-map height start memory))
+
+-- an operation makes as many cells as the sheet has
+pub length-operated : (op : Operation) (w h : ℕ) (offsets : List (ℤ × ℤ)) (f : List ℕ) → length (operated op w h offsets f) ≡ w * h
+length-operated Erosion w h offsets f = length-map-counting (at-place w (erosion-at w h offsets f)) 0 (w * h)
+length-operated Dilation w h offsets f = length-map-counting (at-place w (dilation-at w h offsets f)) 0 (w * h)

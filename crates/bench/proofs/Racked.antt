@@ -39,6 +39,14 @@ module _ (m : Marks) (per sheets planes k : ℕ) (place : is-place (places-in m 
   pub planes-long : planes ≡ per * (m .w * m .h)
   planes-long = eqb-true _ _ (and-parts _ _ fits .1)
 
+  -- and a place has cells
+  pub some-place : (1 ≤ m .w) × (1 ≤ m .h)
+  some-place =
+      let both = and-parts (leb 1 k) (leb k (places-in m per sheets planes)) place in
+      let low = leb-true 1 k (both .0) in
+      let high = leb-true k (places-in m per sheets planes) (both .1) in
+      (omega (arith, m .«some_column», all-places), omega (arith, m .«some_row», all-places))
+
 -- another sheet's heights from the start of place k on, and its flag set
 pub sheet-stored : {L : Type 0} (height : L → ℕ) (m after : Marks) (k planes : ℕ) (was is : List L) (sheet : List ℕ) →
     is-place (places-in m 2 (length was) planes) k ≡ true → length sheet ≡ m .w * m .h →

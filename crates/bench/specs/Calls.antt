@@ -15,8 +15,9 @@ use Rattle.morphology.specs.Passes.{operated}
 use Rattle.morphology.specs.declared.operation.Operation.{Operation}
 use Rattle.bench.specs.declared.fault.Fault.{Fault}
 use Rattle.bench.specs.declared.fault.Fault.the-variants.{Side, Places, Memory, Picture, SheetPlace, Flat, NoVisit, VisitOpen, OtherFlat, EmptySheet, Unequal}
+use Rattle.bench.specs.declared.marks.Marks.{Marks}
 use Rattle.bench.specs.Faults.{first}
-use Rattle.bench.specs.Model.{Outline, State, is-place}
+use Rattle.bench.specs.Model.{Outline, State, is-place, cells-of, overwritten, place-start}
 
 -- the answer of a call that tells nothing but its refusal
 abbrev pub told : Option Fault → Result (Unit {0}) Fault
@@ -82,3 +83,9 @@ abbrev pub operate-leaves : Operation → State ℕ → List (ℤ × ℤ) → �
 operate-leaves op s offsets from to =
     unless (transform-refusal (s .outline) from to)
     (stored s to (operated op (s .outline .w) (s .outline .h) offsets (s .content from))) s
+
+-- and the heights in memory after it
+abbrev pub operate-writes : Operation → Marks → List (ℤ × ℤ) → ℕ → ℕ → List ℕ → List ℕ
+operate-writes op m offsets from to heights =
+    let cells = m .w * m .h in
+    overwritten (place-start cells to) (operated op (m .w) (m .h) offsets (cells-of cells from heights)) heights

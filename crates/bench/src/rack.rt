@@ -11,16 +11,16 @@ use levels::level::Level;
 /// A rack holds its sheets in memory of their level kind that is lent to it: w × h levels for each place, and behind
 /// them two working planes of as many.
 #[derive(Drop)]
-pub struct Rack<'a, L> {
+pub struct Rack<'a, 'b, L> {
     pub(crate) sheets: &'a mut [L],
-    pub(crate) planes: &'a mut [L],
+    pub(crate) planes: &'b mut [L],
     pub(crate) marks: Marks,
 }
 
-impl<'a, L: Level> Rack<'a, L> {
+impl<'a, L: Level> Rack<'a, 'a, L> {
     /// Opens a rack: every place is empty, no visit is open and the memory is as it was.
     /// Wrong sizes, which `check_rack` refuses, open it with sides 0 and no places.
-    pub fn open(memory: &'a mut [L], w: usize, h: usize, places: usize) -> Rack<'a, L>
+    pub fn open(memory: &'a mut [L], w: usize, h: usize, places: usize) -> Rack<'a, 'a, L>
         ensures state { λ r. ⌜ rack-state height r ≡ opening 2 w h places (length (now (memory .entry))) ⌝ }
         ensures memory { λ r. ⌜ now (r .sheets) ++ now (r .planes) ≡ now (memory .entry) ⌝ }
     {

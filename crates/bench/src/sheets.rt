@@ -3,15 +3,19 @@ ghost use mathlib.Core.List.{map};
 ghost use mathlib.Core.Path.{_≡_};
 ghost use Prim.Native.Nat.{_*_};
 ghost use lib.ListN.{length};
-ghost use Rattle.bench.specs.Calls.{load-refusal, load-leaves, told};
+ghost use Rattle.bench.specs.Calls.{load-refusal, load-leaves, operate-leaves, operate-writes, told, transform-refusal};
 ghost use Rattle.bench.specs.Model.{overwritten, place-start, rack-state};
+ghost use Rattle.elements.specs.Elements.{offsets};
 ghost use Rattle.std.specs.Results.{Cases};
 use crate::fault::Fault;
+use crate::planes::operate_place;
 use crate::planes::store;
 use crate::rack::Rack;
+use elements::Element;
 use levels::level::Level;
+use morphology::Operation;
 
-impl<L: Level> Rack<'_, L> {
+impl<L: Level> Rack<'_, '_, L> {
     /// Fills a place from a picture of w × h levels.
     /// Refuses a picture of another length (4), a place that the rack has not (5), and no visit open (31).
     pub fn load(&mut self, place: usize, picture: &[L]) -> Result<(), Fault>
@@ -27,6 +31,27 @@ impl<L: Level> Rack<'_, L> {
         marks.refuse_load(places, place, picture.len())?;
         store(self.sheets, (place - 1) * marks.cells(), picture);
         self.marks = marks.with_filled(place);
+        Ok(())
+    }
+
+    // Fills a place with what an operation by an element makes of the sheet in another, or the same.
+    fn transform(&mut self, op: Operation, element: &Element, from: usize, to: usize) -> Result<(), Fault>
+        ensures answers { λ r. ⌜ r ≡ told (transform-refusal (rack-state height (now (self .entry)) .outline) from to) ⌝ }
+        ensures steps { λ r. ⌜ rack-state height (now (self .exit)) ≡ operate-leaves op (rack-state height (now (self .entry))) (offsets (now (element .entry))) from to ⌝ }
+        ensures memory { λ r. ⌜ Cases r
+            (λ _. map height (now (now (self .exit) .sheets)) ≡ operate-writes op (now (self .entry) .marks) (offsets (now (element .entry))) from to (map height (now (now (self .entry) .sheets))))
+            (λ _. now (now (self .exit) .sheets) ≡ now (now (self .entry) .sheets)) ⌝ }
+        ensures planes { λ r. ⌜ Cases r (λ _. Unit {0}) (λ _. now (now (self .exit) .planes) ≡ now (now (self .entry) .planes)) ⌝ }
+    {
+        let marks = self.marks;
+        let places = marks.places_in(2, self.sheets.len(), self.planes.len());
+        marks.refuse_transform(places, from, to)?;
+        let cells = marks.cells();
+        let filled = marks.with_filled(to);
+        let planes = std::mem::replace(&mut self.planes, &mut []);
+        operate_place(op, self.sheets, planes, marks.w, marks.h, (from - 1) * cells, (to - 1) * cells, element);
+        self.planes = planes;
+        self.marks = filled;
         Ok(())
     }
 }

@@ -13,7 +13,7 @@ use Rattle.std.specs.declared.result.Result.the-variants.{Ok, Err}
 use Rattle.bench.specs.declared.fault.Fault.{Fault}
 use Rattle.bench.specs.Faults.{first}
 use Rattle.bench.specs.Model.{Outline, is-place}
-use Rattle.bench.specs.Calls.{told, unless, load-refusal, transform-refusal}
+use Rattle.bench.specs.Calls.{tells, told, unless, load-refusal, transform-refusal}
 
 pub refused-leaves : {S : Type 0} (o : Option Fault) (e : Fault) (new old : S) → Err e ≡ told o → old ≡ unless o new old
 refused-leaves None e new old h = absurd (let z : _≡_ {A = ℕ} 0 1 = cc in omega arith)
@@ -22,6 +22,15 @@ refused-leaves (Some f) e new old h = refl
 pub accepted-leaves : {S : Type 0} (o : Option Fault) (new old : S) → Ok tt ≡ told o → new ≡ unless o new old
 accepted-leaves None new old h = refl
 accepted-leaves (Some f) new old h = absurd (let z : _≡_ {A = ℕ} 0 1 = cc in omega arith)
+
+-- and what a call tells
+pub refused-tells : {X : Type 0} (o : Option Fault) (e : Fault) (x : X) → Err e ≡ told o → Err e ≡ tells o x
+refused-tells None e x h = absurd (let z : _≡_ {A = ℕ} 0 1 = cc in omega arith)
+refused-tells (Some f) e x h = cc
+
+pub accepted-tells : {X : Type 0} (o : Option Fault) (x : X) → Ok tt ≡ told o → Ok x ≡ tells o x
+accepted-tells None x h = refl
+accepted-tells (Some f) x h = absurd (let z : _≡_ {A = ℕ} 0 1 = cc in omega arith)
 
 -- a table that refuses nothing has passed its first test
 passed-first : (test : Bool) (fault : Fault) (rest : Option Fault) → Ok tt ≡ told (first test fault rest) → (test ≡ false) × (Ok tt ≡ told rest)

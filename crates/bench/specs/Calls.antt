@@ -10,7 +10,7 @@ use Rattle.std.specs.declared.option.Option.{Option}
 use Rattle.std.specs.declared.option.Option.the-variants.{Some, None}
 use Rattle.std.specs.declared.result.Result.{Result}
 use Rattle.std.specs.declared.result.Result.the-variants.{Ok, Err}
-use Rattle.morphology.specs.Sheets.{lawful-side}
+use Rattle.morphology.specs.Sheets.{area, lawful-side}
 use Rattle.morphology.specs.Passes.{operated}
 use Rattle.morphology.specs.declared.operation.Operation.{Operation}
 use Rattle.bench.specs.declared.fault.Fault.{Fault}
@@ -23,6 +23,11 @@ use Rattle.bench.specs.Model.{Outline, State, is-place, cells-of, overwritten,
 abbrev pub told : Option Fault → Result (Unit {0}) Fault
 told None = Ok tt
 told (Some fault) = Err fault
+
+-- the answer of a call that tells something
+abbrev pub tells : {X : Type 0} → Option Fault → X → Result X Fault
+tells None x = Ok x
+tells (Some fault) x = Err fault
 
 -- what a call leaves: the state as it was where it is refused, and else the new one
 abbrev pub unless : {S : Type 0} → Option Fault → S → S → S
@@ -89,3 +94,7 @@ abbrev pub operate-writes : Operation → Marks → List (ℤ × ℤ) → ℕ �
 operate-writes op m offsets from to heights =
     let cells = m .w * m .h in
     overwritten (place-start cells to) (operated op (m .w) (m .h) offsets (cells-of cells from heights)) heights
+
+-- area: the sum of the heights, refused as a call from that place to itself would be
+abbrev pub area-answer : State ℕ → ℕ → Result ℕ Fault
+area-answer s k = tells (transform-refusal (s .outline) k k) (area (s .content k))

@@ -6,6 +6,7 @@ ghost use lib.ListN.{length, take, drop};
 ghost use Rattle.bench.specs.Model.{overwritten};
 ghost use Rattle.elements.specs.Elements.{offsets};
 ghost use Rattle.morphology.specs.Passes.{operated};
+ghost use Rattle.morphology.specs.Sheets.{area};
 use elements::Element;
 use levels::level::Level;
 use morphology::Operation;
@@ -31,4 +32,25 @@ pub(crate) fn operate_place<L: Level>(op: Operation, sheets: &mut [L], planes: &
     let plane = &mut planes[0..cells];
     let _ = operate(op, &sheets[from..from + cells], plane, w, h, element);
     store(sheets, to, plane);
+}
+
+// The sum of the heights of a sheet.
+fn area_of<L: Level>(sheet: &[L]) -> u64
+    requires { ⌜ length (now sheet) ≤ 1048576 ⌝ }
+    ensures { λ r. ⌜ r ≡ area (map height (now (sheet .entry))) ⌝ }
+{
+    let mut sum: u64 = 0;
+    for level in sheet {
+        sum += u64::from(level.measure());
+    }
+    sum
+}
+
+// The area of the sheet of so many cells from a start on.
+pub(crate) fn area_from<L: Level>(sheets: &[L], start: usize, cells: usize) -> u64
+    requires sheet { ⌜ start + cells ≤ length (now sheets) ⌝ }
+    requires small { ⌜ cells ≤ 1048576 ⌝ }
+    ensures { λ r. ⌜ r ≡ area (take cells (drop start (map height (now (sheets .entry))))) ⌝ }
+{
+    area_of(&sheets[start..start + cells])
 }

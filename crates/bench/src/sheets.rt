@@ -3,11 +3,13 @@ ghost use mathlib.Core.List.{map};
 ghost use mathlib.Core.Path.{_≡_};
 ghost use Prim.Native.Nat.{_*_};
 ghost use lib.ListN.{length};
-ghost use Rattle.bench.specs.Calls.{load-refusal, load-leaves, operate-leaves, operate-writes, told, transform-refusal};
+ghost use Rattle.bench.specs.Calls.{area-answer, load-refusal, load-leaves, operate-leaves, operate-writes, told, transform-refusal};
 ghost use Rattle.bench.specs.Model.{overwritten, place-start, rack-state};
 ghost use Rattle.elements.specs.Elements.{offsets};
+ghost use Rattle.morphology.specs.declared.operation.Operation.the-variants.{Erosion, Dilation};
 ghost use Rattle.std.specs.Results.{Cases};
 use crate::fault::Fault;
+use crate::planes::area_from;
 use crate::planes::operate_place;
 use crate::planes::store;
 use crate::rack::Rack;
@@ -53,5 +55,43 @@ impl<L: Level> Rack<'_, '_, L> {
         self.planes = planes;
         self.marks = filled;
         Ok(())
+    }
+
+    /// Fills the place `to` with the erosion by an element of the sheet in the place `from`, which may be the same.
+    /// Refuses a place that the rack has not (5), no visit open (31), and a source place that is empty (34).
+    pub fn erode(&mut self, element: &Element, from: usize, to: usize) -> Result<(), Fault>
+        ensures answers { λ r. ⌜ r ≡ told (transform-refusal (rack-state height (now (self .entry)) .outline) from to) ⌝ }
+        ensures steps { λ r. ⌜ rack-state height (now (self .exit)) ≡ operate-leaves Erosion (rack-state height (now (self .entry))) (offsets (now (element .entry))) from to ⌝ }
+        ensures memory { λ r. ⌜ Cases r
+            (λ _. map height (now (now (self .exit) .sheets)) ≡ operate-writes Erosion (now (self .entry) .marks) (offsets (now (element .entry))) from to (map height (now (now (self .entry) .sheets))))
+            (λ _. now (now (self .exit) .sheets) ≡ now (now (self .entry) .sheets)) ⌝ }
+        ensures planes { λ r. ⌜ Cases r (λ _. Unit {0}) (λ _. now (now (self .exit) .planes) ≡ now (now (self .entry) .planes)) ⌝ }
+    {
+        self.transform(Operation::Erosion, element, from, to)
+    }
+
+    /// Fills the place `to` with the dilation by an element of the sheet in the place `from`, which may be the same.
+    /// Refuses a place that the rack has not (5), no visit open (31), and a source place that is empty (34).
+    pub fn dilate(&mut self, element: &Element, from: usize, to: usize) -> Result<(), Fault>
+        ensures answers { λ r. ⌜ r ≡ told (transform-refusal (rack-state height (now (self .entry)) .outline) from to) ⌝ }
+        ensures steps { λ r. ⌜ rack-state height (now (self .exit)) ≡ operate-leaves Dilation (rack-state height (now (self .entry))) (offsets (now (element .entry))) from to ⌝ }
+        ensures memory { λ r. ⌜ Cases r
+            (λ _. map height (now (now (self .exit) .sheets)) ≡ operate-writes Dilation (now (self .entry) .marks) (offsets (now (element .entry))) from to (map height (now (now (self .entry) .sheets))))
+            (λ _. now (now (self .exit) .sheets) ≡ now (now (self .entry) .sheets)) ⌝ }
+        ensures planes { λ r. ⌜ Cases r (λ _. Unit {0}) (λ _. now (now (self .exit) .planes) ≡ now (now (self .entry) .planes)) ⌝ }
+    {
+        self.transform(Operation::Dilation, element, from, to)
+    }
+
+    /// Tells the area of the sheet in a place: the sum of its heights.
+    /// Refuses a place that the rack has not (5), no visit open (31), and a place that is empty (34).
+    pub fn area(&self, place: usize) -> Result<u64, Fault>
+        ensures { λ r. ⌜ r ≡ area-answer (rack-state height (now (self .entry))) place ⌝ }
+    {
+        let marks = self.marks;
+        let places = marks.places_in(2, self.sheets.len(), self.planes.len());
+        marks.refuse_transform(places, place, place)?;
+        let cells = marks.cells();
+        Ok(area_from(self.sheets, (place - 1) * cells, cells))
     }
 }

@@ -6,7 +6,7 @@ use mathlib.Core.List.{List, map}
 use lib.Dec.{eqb, leb, ltb}
 use lib.IntN.{ℤ, pos, negsuc}
 use lib.ListN.{getD}
-use Rattle.std.specs.Iters.{counting}
+use Rattle.std.specs.Iters.{counting, folded}
 use Rattle.std.specs.declared.result.Result.{Result}
 use Rattle.std.specs.declared.result.Result.the-variants.{Ok, Err}
 use Rattle.morphology.specs.declared.fault.SheetFault.{SheetFault}
@@ -39,3 +39,7 @@ sheet-fault-number Length = 4
 abbrev pub sheets-answer : ℕ → ℕ → ℕ → ℕ → Result (Unit {0}) SheetFault
 sheets-answer w h from to =
     cond (lawful-side w && lawful-side h) (cond (eqb from (w * h) && eqb to (w * h)) (Ok tt) (Err Length)) (Err Side)
+
+-- the area of a sheet is the sum of its heights
+abbrev pub area : List ℕ → ℕ
+area f = folded _+_ 0 f

@@ -42,16 +42,19 @@ records card = getD card 0 0
 abbrev pub sized : List ℕ → Bool
 sized card = leb 1 (records card) && leb (records card) 49 && eqb (length card) (1 + 3 * records card)
 
--- Record n is three bytes from this one on: its column and its row, which are signed, and the record to go on with.
+-- The first of the three bytes of record n, counted from 1.
 abbrev pub record-byte : ℕ → ℕ
 record-byte n = 3 * n - 2
 
+-- The first is its column, a signed byte.
 abbrev pub column-of : List ℕ → ℕ → ℤ
 column-of card n = toZ w8 (getD card (record-byte n) 0)
 
+-- The second is its row, a signed byte.
 abbrev pub row-of : List ℕ → ℕ → ℤ
 row-of card n = toZ w8 (getD card (record-byte n + 1) 0)
 
+-- The third is the record to go on with, or 0 at the chain's end.
 abbrev pub next-of : List ℕ → ℕ → ℕ
 next-of card n = getD card (record-byte n + 2) 0
 
@@ -78,11 +81,11 @@ record-fault card n met =
     (first (ltb (records card) (next-of card n)) (Next (record-byte n + 2))
     (first (getD met (record-place card n) false) (Repeated (record-byte n)) None))
 
--- The fault of a chain that ends with record n and met the offsets of `met`.
+-- The fault of a chain that ended with this byte and met the offsets of `met`.
 abbrev pub end-fault : ℕ → List Bool → Option CardFault
-end-fault n met =
-    first (not (getD met 24 false)) (NoCentre (record-byte n + 2))
-    (first (ltb (count met) 2) (OnlyCentre (record-byte n + 2)) None)
+end-fault byte met =
+    first (not (getD met 24 false)) (NoCentre byte)
+    (first (ltb (count met) 2) (OnlyCentre byte) None)
 
 -- The fault if there is one, and else the flags.
 abbrev pub unless : Option CardFault → Result (List Bool) CardFault → Result (List Bool) CardFault
@@ -90,14 +93,14 @@ unless None flags = flags
 unless (Some fault) flags = Err fault
 
 -- The offsets of `met` and those that the chain meets from record n on, as flags, or the chain's first fault.
--- Of `turns` records there are always enough: each visited one sets another of the 49 flags.
-abbrev pub chain-flags : ℕ → List ℕ → ℕ → List Bool → Result (List Bool) CardFault
+-- A card's reading never runs out of its 50 turns, since each record visited sets another of the 49 flags.
+unfoldable pub chain-flags : ℕ → List ℕ → ℕ → List Bool → Result (List Bool) CardFault
 chain-flags zero card n met = Err (Repeated (record-byte n))
 chain-flags (suc turns) card n met =
     unless (record-fault card n met)
     (let with-n = set met (record-place card n) true in
     cond (eqb (next-of card n) 0)
-    (unless (end-fault n with-n) (Ok with-n))
+    (unless (end-fault (record-byte n + 2) with-n) (Ok with-n))
     (chain-flags turns card (next-of card n) with-n))
 
 -- What a card comes to: the flags of its element, or its first fault.

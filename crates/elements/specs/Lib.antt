@@ -1,3 +1,4 @@
 pub mod Offsets
 pub mod Elements
 pub mod Cards
+pub mod Chains

@@ -7,7 +7,8 @@ ghost use mir.Val.{toZ};
 ghost use lib.ListN.{length, set};
 ghost use mathlib.Core.Bool.{true, false};
 ghost use mathlib.Core.Path.{_≡_};
-ghost use Rattle.elements.specs.Cards.{card-fault-number, card-fault-place, card-flags, end-fault, far, far-fault, next-of, record-fault, record-place, records};
+ghost use Rattle.elements.specs.Cards.{card-fault-number, card-fault-place, card-flags, end-fault, far, far-fault, next-of, record-fault, record-place, records, sized};
+ghost use Rattle.elements.specs.Chains.{Tells-the-chain};
 ghost use Rattle.elements.specs.Offsets.{count};
 ghost use Rattle.std.specs.Results.{Cases};
 ghost use Rattle.std.specs.declared.option.Option.the-variants.{None, Some};
@@ -60,6 +61,17 @@ impl CardFault {
     }
 }
 
+// Whether the card has 1 to 49 records and is as long as they make it.
+fn is_sized(card: &[u8]) -> bool
+    ensures { λ r. ⌜ r ≡ sized (now (card .entry)) ⌝ }
+{
+    let [count, records @ ..] = card else {
+        return false;
+    };
+    let count = usize::from(*count);
+    1 <= count && count <= 49 && records.len() == 3 * count
+}
+
 // The offset of the two bytes that stand at `place` and after it.
 fn read_offset(column: u8, row: u8, place: usize) -> Result<Offset, CardFault>
     requires { ⌜ place < 2 ^ 63 ⌝ }
@@ -99,4 +111,59 @@ fn visit(card: &[u8], number: usize, flags: &mut [bool; 49]) -> Result<usize, Ca
     }
     flags[index] = true;
     Ok(usize::from(*next))
+}
+
+// How many flags are set.
+fn count_set(flags: &[bool; 49]) -> usize
+    ensures { λ r. ⌜ r ≡ count (now (flags .entry)) ⌝ }
+{
+    let mut set = 0;
+    for flag in flags {
+        if *flag {
+            set += 1;
+        }
+    }
+    set
+}
+
+// The element of a chain that met the offsets of `flags` and ended with this byte.
+fn finish(flags: [bool; 49], last: usize) -> Result<Element, CardFault>
+    ensures { λ r. ⌜ Cases r
+        (λ element. (element .flags ≡ flags) × (end-fault last flags ≡ None))
+        (λ fault. end-fault last flags ≡ Some fault) ⌝ }
+{
+    if !flags[24] {
+        return Err(CardFault::NoCentre(last));
+    }
+    if count_set(&flags) < 2 {
+        return Err(CardFault::OnlyCentre(last));
+    }
+    Ok(Element::from_flags(flags))
+}
+
+/// Reads a card: a byte that counts the records, 1 to 49, and then the records, each of three bytes, the column and the row
+/// of an offset as signed bytes and the number of the next record. The chain starts at record 1 and ends at a next of 0;
+/// the element is the set of the offsets on it, and records off the chain are not looked at.
+///
+/// Refuses, in this order: `Length` (12); at each record of the chain `Offset` (13) at the column's or else the row's byte,
+/// `Next` (14) at the next's byte, `Repeated` (15) at the record's first byte; at the chain's end, at its last next byte,
+/// `NoCentre` (16) and `OnlyCentre` (17).
+pub fn read_card(card: &[u8]) -> Result<Element, CardFault>
+    ensures flags { λ r. ⌜ Cases r
+        (λ element. card-flags (now (card .entry)) ≡ Ok (element .flags))
+        (λ fault. card-flags (now (card .entry)) ≡ Err fault) ⌝ }
+    ensures chain { λ r. ⌜ Tells-the-chain (now (card .entry)) r ⌝ }
+{
+    if !is_sized(card) {
+        return Err(CardFault::Length);
+    }
+    let mut flags = [false; 49];
+    let mut number = 1;
+    loop {
+        let next = visit(card, number, &mut flags)?;
+        if next == 0 {
+            return finish(flags, 3 * number);
+        }
+        number = next;
+    }
 }

@@ -1,4 +1,6 @@
 // Structuring elements.
+mod members;
+
 ghost use Prim.Native.Nat.{_≤_};
 ghost use lib.ListN.{getD, length};
 ghost use mathlib.Core.Bool.{true, false};

@@ -2,7 +2,10 @@
 mod cards;
 mod element;
 mod offset;
+#[cfg(test)]
+mod tests;
 
 pub use cards::CardFault;
+pub use cards::read_card;
 pub use element::Element;
 pub use offset::Offset;

@@ -3,7 +3,7 @@ ghost use Prim.Native.Nat.{_<_};
 ghost use lib.IntN.{pos, negsuc};
 ghost use lib.Signed.{_≤ℤ_};
 ghost use mathlib.Core.Path.{_≡_};
-ghost use Rattle.elements.specs.Offsets.{place-of};
+ghost use Rattle.elements.specs.Offsets.{Near, place-of};
 ghost use Rattle.std.specs.Options.{Cases};
 
 /// A step of at most three columns and three rows; to the right and down count up.
@@ -21,27 +21,13 @@ impl Offset {
     /// The offset of this column and row; `None` where one of them lies outside −3 to 3.
     pub fn new(column: i8, row: i8) -> Option<Offset>
         ensures { λ r. ⌜ Cases r
-            ((negsuc 2 ≤ℤ column) × (column ≤ℤ pos 3) × (negsuc 2 ≤ℤ row) × (row ≤ℤ pos 3) → ⊥)
+            (Near column × Near row → ⊥)
             (λ o. (o .column ≡ column) × (o .row ≡ row)) ⌝ }
     {
         if column < -3 || column > 3 || row < -3 || row > 3 {
             return None;
         }
         Some(Offset { column, row })
-    }
-
-    /// How many columns to the right.
-    pub fn column(self) -> i8
-        ensures { λ r. ⌜ r ≡ self .column ⌝ }
-    {
-        self.column
-    }
-
-    /// How many rows down.
-    pub fn row(self) -> i8
-        ensures { λ r. ⌜ r ≡ self .row ⌝ }
-    {
-        self.row
     }
 
     // The place in the square of flags, in reading order.

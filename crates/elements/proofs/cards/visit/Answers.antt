@@ -1,16 +1,16 @@
 -- The record's three bytes are those of the card, and its first fault is the first test that fails.
-use Prim.Native.Nat.{ℕ, _-_, _<_, _≤_}
+use Prim.Native.Nat.{ℕ, _-_}
 use mathlib.Core.Bool.{true, false}
 use mathlib.Core.List.{List}
-use mathlib.Core.Path.{_≡_, sym, ap, subst, _∙_}
+use mathlib.Core.Path.{_≡_, sym, ap, _∙_}
 use lib.IntN.{ℤ}
 use lib.ListN.{getD, length, take, drop, set}
 use mir.Syntax.{w8}
 use mir.Val.{toZ}
 use native.Mathlib.Omega.{arith}
 use Rattle.std.proofs.shelf.Results.{err-from-errBy}
-use Rattle.std.specs.declared.option.Option.the-variants.{Some, None}
-use Rattle.elements.specs.Cards.{column-of, row-of, next-of, far, far-fault, record-byte, record-place, records}
+use Rattle.std.specs.declared.option.Option.the-variants.{None}
+use Rattle.elements.specs.Cards.{column-of, row-of, next-of, far, far-fault, record-byte, record-place}
 use Rattle.elements.specs.Offsets.{place-of}
 use Rattle.elements.proofs.Records.{byte-from, first-byte-from, offset-fault, next-fault, repeated-fault, no-fault}
 use Rattle.elements.proofs.cards.visit.Needs as need

@@ -98,3 +98,45 @@ operate-writes op m offsets from to heights =
 -- area: the sum of the heights, refused as a call from that place to itself would be
 abbrev pub area-answer : State ℕ → ℕ → Result ℕ Fault
 area-answer s k = tells (transform-refusal (s .outline) k k) (area (s .content k))
+
+-- the same number, where no visit counts as a number of its own
+abbrev pub same-visit : Option ℕ → Option ℕ → Bool
+same-visit None None = true
+same-visit None (Some b) = false
+same-visit (Some a) None = false
+same-visit (Some a) (Some b) = eqb a b
+
+-- rack and slate have the same sides and the same visit, or none
+abbrev pub equal-benches : Outline → Outline → Bool
+equal-benches r s = (eqb (r .w) (s .w) && eqb (r .h) (s .h)) && same-visit (r .visit) (s .visit)
+
+-- begin: the flat's number, then no visit open on either, then rack and slate equal
+abbrev pub begin-refusal : Outline → Outline → ℕ → Option Fault
+begin-refusal r s flat =
+    first (not (leb 1 flat && leb flat 9999)) Flat
+    (first (isSome (r .visit) || isSome (s .visit)) VisitOpen
+    (first (not (equal-benches r s)) Unequal None))
+
+-- the state with a visit open
+abbrev pub visited : {X : Type 0} → State X → ℕ → State X
+visited s flat = record {
+  outline = record {
+    w = s .outline .w;
+    h = s .outline .h;
+    places = s .outline .places;
+    visit = Some flat;
+    filled = s .outline .filled;
+  };
+  content = s .content;
+}
+
+-- end: a visit open on the rack, then the slip of its flat, then rack and slate equal
+abbrev pub end-refusal : Outline → Outline → ℕ → Option Fault
+end-refusal r s flat =
+    first (not (isSome (r .visit))) NoVisit
+    (first (not (same-visit (r .visit) (Some flat))) OtherFlat
+    (first (not (equal-benches r s)) Unequal None))
+
+-- an accepted end leaves what an opening with the same sides and places leaves
+abbrev pub ended : {X : Type 0} → State X → State X
+ended s = opened (s .outline .w) (s .outline .h) (s .outline .places)

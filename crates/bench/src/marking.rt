@@ -2,10 +2,11 @@
 ghost use mathlib.Core.Bool.{true, false};
 ghost use mathlib.Core.Path.{_≡_};
 ghost use Prim.Native.Nat.{_*_, _-_, _≤_};
-ghost use lib.ListN.{set};
-ghost use Rattle.bench.specs.Calls.{load-refusal, transform-refusal, told};
+ghost use lib.ListN.{replicate, set};
+ghost use Rattle.bench.specs.Calls.{begin-refusal, end-refusal, equal-benches, load-refusal, told, transform-refusal};
 ghost use Rattle.bench.specs.Model.{outline-of, places-in};
 ghost use Rattle.std.specs.Options.{isSome};
+ghost use Rattle.std.specs.declared.option.Option.the-variants.{None, Some};
 use crate::fault::Fault;
 use crate::marks::Marks;
 
@@ -86,5 +87,66 @@ impl Marks {
         let mut filled = self.filled;
         filled[place - 1] = true;
         Marks { w: self.w, h: self.h, places: self.places, visit: self.visit, filled }
+    }
+
+    // The marks with a visit open.
+    pub(crate) fn with_visit(&self, flat: u16) -> Marks
+        ensures w { λ r. ⌜ r .w ≡ now (self .entry) .w ⌝ }
+        ensures h { λ r. ⌜ r .h ≡ now (self .entry) .h ⌝ }
+        ensures places { λ r. ⌜ r .places ≡ now (self .entry) .places ⌝ }
+        ensures visit { λ r. ⌜ r .visit ≡ Some flat ⌝ }
+        ensures filled { λ r. ⌜ r .filled ≡ now (self .entry) .filled ⌝ }
+    {
+        Marks { w: self.w, h: self.h, places: self.places, visit: Some(flat), filled: self.filled }
+    }
+
+    // The marks with no visit open and every place empty.
+    pub(crate) fn cleared(&self) -> Marks
+        ensures w { λ r. ⌜ r .w ≡ now (self .entry) .w ⌝ }
+        ensures h { λ r. ⌜ r .h ≡ now (self .entry) .h ⌝ }
+        ensures places { λ r. ⌜ r .places ≡ now (self .entry) .places ⌝ }
+        ensures visit { λ r. ⌜ r .visit ≡ None ⌝ }
+        ensures filled { λ r. ⌜ r .filled ≡ replicate 12 false ⌝ }
+    {
+        Marks { w: self.w, h: self.h, places: self.places, visit: None, filled: [false; 12] }
+    }
+
+    // Whether rack and slate have the same sides and the same visit, or none.
+    fn equals(&self, slate: &Marks) -> bool
+        ensures { λ r. ⌜ r ≡ equal-benches (outline-of (now (self .entry)) 0) (outline-of (now (slate .entry)) 0) ⌝ }
+    {
+        self.w == slate.w && self.h == slate.h && self.visit == slate.visit
+    }
+
+    // What begin refuses: 11, 32, 37. How many places there are does not count.
+    pub(crate) fn refuse_begin(&self, slate: &Marks, flat: u16) -> Result<(), Fault>
+        ensures { λ r. ⌜ r ≡ told (begin-refusal (outline-of (now (self .entry)) 0) (outline-of (now (slate .entry)) 0) flat) ⌝ }
+    {
+        if flat < 1 || flat > 9999 {
+            return Err(Fault::Flat);
+        }
+        if self.visit.is_some() || slate.visit.is_some() {
+            return Err(Fault::VisitOpen);
+        }
+        if !self.equals(slate) {
+            return Err(Fault::Unequal);
+        }
+        Ok(())
+    }
+
+    // What end refuses: 31, 33, 37. How many places there are does not count.
+    pub(crate) fn refuse_end(&self, slate: &Marks, flat: u16) -> Result<(), Fault>
+        ensures { λ r. ⌜ r ≡ told (end-refusal (outline-of (now (self .entry)) 0) (outline-of (now (slate .entry)) 0) flat) ⌝ }
+    {
+        let Some(open) = self.visit else {
+            return Err(Fault::NoVisit);
+        };
+        if open != flat {
+            return Err(Fault::OtherFlat);
+        }
+        if !self.equals(slate) {
+            return Err(Fault::Unequal);
+        }
+        Ok(())
     }
 }

@@ -9,8 +9,8 @@ use crate::sizes::opened_marks;
 /// A slate holds its tallies, signed numbers for each cell, in memory that is lent to it: w × h numbers for each place.
 #[derive(Drop)]
 pub struct Slate<'a> {
-    tallies: &'a mut [i32],
-    marks: Marks,
+    pub(crate) tallies: &'a mut [i32],
+    pub(crate) marks: Marks,
 }
 
 impl<'a> Slate<'a> {

@@ -1,11 +1,11 @@
 -- Cells written into memory, as the code writes them and by their heights. Assumes nothing.
-use Prim.Native.Nat.{ℕ, _+_, _-_, _*_, _≤_}
+use Prim.Native.Nat.{ℕ, zero, suc, _+_, _-_, _*_, _≤_}
 use mathlib.Core.Path.{_≡_, refl, sym, ap, _∙_}
-use mathlib.Core.List.{List, map, _++_}
+use mathlib.Core.List.{List, _∷_, map, _++_}
 use native.Mathlib.Omega.{arith}
 use borrow.Rule.Slice.PartMut.{putMid}
 use lib.IntN.{ℤ}
-use lib.ListN.{length, take, drop}
+use lib.ListN.{length, replicate, take, drop}
 use Rattle.std.proofs.shelf.Counted.{length-map-counting}
 use Rattle.std.proofs.shelf.Lists.{drop-drop, map-append, take-map, drop-map, length-map}
 use Rattle.std.proofs.shelf.Tests.{le-leb, eq-eqb}
@@ -45,3 +45,8 @@ heights-of-part height start n memory =
 pub length-operated : (op : Operation) (w h : ℕ) (offsets : List (ℤ × ℤ)) (f : List ℕ) → length (operated op w h offsets f) ≡ w * h
 length-operated Erosion w h offsets f = length-map-counting (at-place w (erosion-at w h offsets f)) 0 (w * h)
 length-operated Dilation w h offsets f = length-map-counting (at-place w (dilation-at w h offsets f)) 0 (w * h)
+
+-- the heights of memory that is all one level
+pub map-replicate : {X Y : Type 0} (f : X → Y) (n : ℕ) (x : X) → map f (replicate n x) ≡ replicate n (f x)
+map-replicate f zero x = refl
+map-replicate f (suc n) x = ap (λ rest. f x ∷ rest) (map-replicate f n x)

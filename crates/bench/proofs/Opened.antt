@@ -5,6 +5,7 @@ use mathlib.Core.Bool.{Bool, true, false, cond, _&&_}
 use mathlib.Core.List.{List, []}
 use mathlib.Core.Logic.{_⊎_, inl, inr}
 use native.Mathlib.Omega.{arith}
+use lib.Dec.{eqb}
 use lib.ListN.{getD, length, replicate}
 use Rattle.std.proofs.shelf.Lists.{getD-replicate, getD-past, length-replicate}
 use Rattle.std.proofs.shelf.Tests.{cases-lt}
@@ -12,7 +13,7 @@ use Rattle.std.specs.declared.option.Option.{Option}
 use Rattle.std.specs.declared.option.Option.the-variants.{Some, None}
 use Rattle.bench.specs.declared.fault.Fault.{Fault}
 use Rattle.bench.specs.declared.marks.Marks.{Marks}
-use Rattle.bench.specs.Model.{is-place, state-of, cells-of}
+use Rattle.bench.specs.Model.{is-place, state-of, cells-of, places-in}
 use Rattle.bench.specs.Calls.{opened, opening, sizes-refusal, unless}
 
 -- no flag of a clear row is set
@@ -46,3 +47,11 @@ pub opening-state : {X : Type 0} (m : Marks) (per w h places len n : ℕ) (memor
     state-of m n memory ≡ opening per w h places len
 opening-state m per w h places len n memory ew eh en closed clear all =
     clear-state m n memory closed clear ∙ opened-unless (sizes-refusal per w h places len) w h places (m .w) (m .h) n ew eh (all ∙ en)
+
+-- marks with the same sides and places, for memory of the same size, have the same number of places
+pub same-places : (m after : Marks) (per sheets sheets′ planes planes′ : ℕ) → after .w ≡ m .w → after .h ≡ m .h → after .places ≡ m .places → sheets′ ≡ sheets → planes′ ≡ planes → places-in after per sheets′ planes′ ≡ places-in m per sheets planes
+same-places m after per sheets sheets′ planes planes′ ew eh ep es el = λ i. cond (eqb (es i) (ep i * (ew i * eh i)) && eqb (el i) (per * (ew i * eh i))) (ep i) 0
+
+-- cleared marks stand for what an opening leaves
+pub cleared-state : {X : Type 0} (m after : Marks) (n n′ : ℕ) (memory : List X) → after .w ≡ m .w → after .h ≡ m .h → after .visit ≡ None → after .filled ≡ replicate 12 false → n′ ≡ n → state-of after n′ memory ≡ opened (m .w) (m .h) n
+cleared-state m after n n′ memory ew eh closed clear en = clear-state after n′ memory closed clear ∙ (λ i. opened (ew i) (eh i) (en i))

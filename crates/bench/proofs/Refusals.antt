@@ -23,6 +23,15 @@ pub accepted-leaves : {S : Type 0} (o : Option Fault) (new old : S) → Ok tt �
 accepted-leaves None new old h = refl
 accepted-leaves (Some f) new old h = absurd (let z : _≡_ {A = ℕ} 0 1 = cc in omega arith)
 
+-- which it was
+pub refused-by : (o : Option Fault) (e : Fault) → Err e ≡ told o → o ≡ Some e
+refused-by None e h = absurd (let z : _≡_ {A = ℕ} 0 1 = cc in omega arith)
+refused-by (Some f) e h = cc
+
+pub refused-by-none : (o : Option Fault) → Ok tt ≡ told o → o ≡ None
+refused-by-none None h = refl
+refused-by-none (Some f) h = absurd (let z : _≡_ {A = ℕ} 0 1 = cc in omega arith)
+
 -- and what a call tells
 pub refused-tells : {X : Type 0} (o : Option Fault) (e : Fault) (x : X) → Err e ≡ told o → Err e ≡ tells o x
 refused-tells None e x h = absurd (let z : _≡_ {A = ℕ} 0 1 = cc in omega arith)

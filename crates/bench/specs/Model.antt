@@ -62,10 +62,16 @@ state-of m places memory = record {
 abbrev pub places-in : Marks → ℕ → ℕ → ℕ → ℕ
 places-in m per sheets planes = cond (eqb sheets (m .places * (m .w * m .h)) && eqb planes (per * (m .w * m .h))) (m .places) 0
 
--- the state of a rack whose levels have these heights
-abbrev pub rack-state : {L : Type 0} → (L → ℕ) → Rack L → State ℕ
-rack-state height r = state-of (r .marks) (places-in (r .marks) 2 (length (r .sheets .now)) (length (r .planes .now))) (map height (r .sheets .now))
+-- the outline of a rack and of a slate
+abbrev pub rack-outline : {L : Type 0} → Rack L → Outline
+rack-outline r = outline-of (r .marks) (places-in (r .marks) 2 (length (r .sheets .now)) (length (r .planes .now)))
 
--- the state of a slate
+abbrev pub slate-outline : Slate → Outline
+slate-outline s = outline-of (s .marks) (places-in (s .marks) 0 (length (s .tallies .now)) 0)
+
+-- the state of a rack whose levels have these heights, and of a slate
+abbrev pub rack-state : {L : Type 0} → (L → ℕ) → Rack L → State ℕ
+rack-state height r = state-of (r .marks) (rack-outline r .places) (map height (r .sheets .now))
+
 abbrev pub slate-state : Slate → State ℤ
-slate-state s = state-of (s .marks) (places-in (s .marks) 0 (length (s .tallies .now)) 0) (s .tallies .now)
+slate-state s = state-of (s .marks) (slate-outline s .places) (s .tallies .now)

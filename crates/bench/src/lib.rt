@@ -18,3 +18,4 @@ pub use slate::Slate;
 pub use slip::EndRefused;
 pub use slip::Slip;
 pub use visit::begin;
+pub use visit::end;

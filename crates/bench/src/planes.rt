@@ -2,7 +2,7 @@
 ghost use mathlib.Core.List.{map};
 ghost use mathlib.Core.Path.{_≡_};
 ghost use Prim.Native.Nat.{_+_, _*_, _≤_};
-ghost use lib.ListN.{length, take, drop};
+ghost use lib.ListN.{length, replicate, take, drop};
 ghost use Rattle.bench.specs.Model.{overwritten};
 ghost use Rattle.elements.specs.Elements.{offsets};
 ghost use Rattle.morphology.specs.Passes.{operated};
@@ -18,6 +18,15 @@ pub(crate) fn store<L: Copy>(memory: &mut [L], start: usize, cells: &[L])
     ensures { λ _. ⌜ now (memory .exit) ≡ overwritten start (now (cells .entry)) (now (memory .entry)) ⌝ }
 {
     memory[start..start + cells.len()].copy_from_slice(cells);
+}
+
+// Writes one value to every cell.
+pub(crate) fn fill<T: Copy>(cells: &mut [T], value: T)
+    ensures { λ _. ⌜ now (cells .exit) ≡ replicate (length (now (cells .entry))) value ⌝ }
+{
+    for cell in cells.iter_mut() {
+        *cell = value;
+    }
 }
 
 // Writes what an operation makes of the sheet from one start to the cells from another, by way of a working plane.

@@ -4,7 +4,7 @@ ghost use mathlib.Core.Path.{_≡_};
 ghost use Prim.Native.Nat.{_*_};
 ghost use lib.ListN.{length};
 ghost use Rattle.bench.specs.Calls.{area-answer, load-refusal, load-leaves, operate-leaves, operate-writes, told, transform-refusal};
-ghost use Rattle.bench.specs.Model.{overwritten, place-start, rack-state};
+ghost use Rattle.bench.specs.Model.{overwritten, place-start, rack-outline, rack-state};
 ghost use Rattle.elements.specs.Elements.{offsets};
 ghost use Rattle.morphology.specs.declared.operation.Operation.the-variants.{Erosion, Dilation};
 ghost use Rattle.std.specs.Results.{Cases};
@@ -21,7 +21,7 @@ impl<L: Level> Rack<'_, '_, L> {
     /// Fills a place from a picture of w × h levels.
     /// Refuses a picture of another length (4), a place that the rack has not (5), and no visit open (31).
     pub fn load(&mut self, place: usize, picture: &[L]) -> Result<(), Fault>
-        ensures answers { λ r. ⌜ r ≡ told (load-refusal (rack-state height (now (self .entry)) .outline) place (length (now (picture .entry)))) ⌝ }
+        ensures answers { λ r. ⌜ r ≡ told (load-refusal (rack-outline (now (self .entry))) place (length (now (picture .entry)))) ⌝ }
         ensures steps { λ r. ⌜ rack-state height (now (self .exit)) ≡ load-leaves (rack-state height (now (self .entry))) place (map height (now (picture .entry))) ⌝ }
         ensures memory { λ r. ⌜ Cases r
             (λ _. now (now (self .exit) .sheets) ≡ overwritten (place-start (now (self .entry) .marks .w * now (self .entry) .marks .h) place) (now (picture .entry)) (now (now (self .entry) .sheets)))
@@ -38,7 +38,7 @@ impl<L: Level> Rack<'_, '_, L> {
 
     // Fills a place with what an operation by an element makes of the sheet in another, or the same.
     fn transform(&mut self, op: Operation, element: &Element, from: usize, to: usize) -> Result<(), Fault>
-        ensures answers { λ r. ⌜ r ≡ told (transform-refusal (rack-state height (now (self .entry)) .outline) from to) ⌝ }
+        ensures answers { λ r. ⌜ r ≡ told (transform-refusal (rack-outline (now (self .entry))) from to) ⌝ }
         ensures steps { λ r. ⌜ rack-state height (now (self .exit)) ≡ operate-leaves op (rack-state height (now (self .entry))) (offsets (now (element .entry))) from to ⌝ }
         ensures memory { λ r. ⌜ Cases r
             (λ _. map height (now (now (self .exit) .sheets)) ≡ operate-writes op (now (self .entry) .marks) (offsets (now (element .entry))) from to (map height (now (now (self .entry) .sheets))))
@@ -60,7 +60,7 @@ impl<L: Level> Rack<'_, '_, L> {
     /// Fills the place `to` with the erosion by an element of the sheet in the place `from`, which may be the same.
     /// Refuses a place that the rack has not (5), no visit open (31), and a source place that is empty (34).
     pub fn erode(&mut self, element: &Element, from: usize, to: usize) -> Result<(), Fault>
-        ensures answers { λ r. ⌜ r ≡ told (transform-refusal (rack-state height (now (self .entry)) .outline) from to) ⌝ }
+        ensures answers { λ r. ⌜ r ≡ told (transform-refusal (rack-outline (now (self .entry))) from to) ⌝ }
         ensures steps { λ r. ⌜ rack-state height (now (self .exit)) ≡ operate-leaves Erosion (rack-state height (now (self .entry))) (offsets (now (element .entry))) from to ⌝ }
         ensures memory { λ r. ⌜ Cases r
             (λ _. map height (now (now (self .exit) .sheets)) ≡ operate-writes Erosion (now (self .entry) .marks) (offsets (now (element .entry))) from to (map height (now (now (self .entry) .sheets))))
@@ -73,7 +73,7 @@ impl<L: Level> Rack<'_, '_, L> {
     /// Fills the place `to` with the dilation by an element of the sheet in the place `from`, which may be the same.
     /// Refuses a place that the rack has not (5), no visit open (31), and a source place that is empty (34).
     pub fn dilate(&mut self, element: &Element, from: usize, to: usize) -> Result<(), Fault>
-        ensures answers { λ r. ⌜ r ≡ told (transform-refusal (rack-state height (now (self .entry)) .outline) from to) ⌝ }
+        ensures answers { λ r. ⌜ r ≡ told (transform-refusal (rack-outline (now (self .entry))) from to) ⌝ }
         ensures steps { λ r. ⌜ rack-state height (now (self .exit)) ≡ operate-leaves Dilation (rack-state height (now (self .entry))) (offsets (now (element .entry))) from to ⌝ }
         ensures memory { λ r. ⌜ Cases r
             (λ _. map height (now (now (self .exit) .sheets)) ≡ operate-writes Dilation (now (self .entry) .marks) (offsets (now (element .entry))) from to (map height (now (now (self .entry) .sheets))))

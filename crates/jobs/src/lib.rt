@@ -1,0 +1,5 @@
+// Jobs: the bytes of a card, a picture and job lines in, the printed lines out.
+mod answers;
+mod faults;
+
+pub use faults::JobFault;

@@ -1,0 +1,192 @@
+//! Picture files: how the header of one is read, and what is refused.
+ghost use Prim.Native.Nat.{_≤_};
+ghost use Rattle.pictures.specs.Headers.{height-at, number-of, place-of, Fills};
+ghost use Rattle.pictures.specs.Reading.{header-form, read, sized, Reads-back-pictures, Reads-only-pictures, Refuses-what-is-wrong};
+ghost use Rattle.std.specs.Results.{Cases};
+ghost use Rattle.std.specs.Vec.{made};
+ghost use Rattle.std.specs.declared.result.Result.the-variants.{Ok, Err};
+ghost use Rattle.text.specs.Forms.{scan};
+ghost use lib.ListN.{length};
+ghost use mathlib.Core.List.{[], _∷_};
+ghost use mathlib.Core.Path.{_≡_};
+use text::Misfit;
+use text::fixed;
+use text::number;
+
+/// The sides of a picture, and the place of its first cell in the file.
+#[derive(Clone, Copy, PartialEq, Debug)]
+pub struct Picture {
+    pub width: usize,
+    pub height: usize,
+    pub start: usize,
+}
+
+/// Why a file is refused, with the place of the byte in question, from 0.
+#[derive(Clone, Copy, PartialEq, Debug)]
+pub enum PictureFault {
+    /// 19: the header is not of the form, at its first misfit, or at the file's end where it ends inside the header.
+    Header(usize),
+    /// 1: a side is above 1,024, at the first digit of the first such side.
+    Side(usize),
+    /// 20: the file is too short, at its end, or too long, at the first byte too many.
+    Length(usize),
+}
+
+impl PictureFault {
+    /// The number of this refusal.
+    pub fn number(self) -> u32
+        ensures { λ r. ⌜ r ≡ number-of self ⌝ }
+    {
+        match self {
+            PictureFault::Header(_) => 19,
+            PictureFault::Side(_) => 1,
+            PictureFault::Length(_) => 20,
+        }
+    }
+
+    /// The place of the byte in question.
+    pub fn place(self) -> usize
+        ensures { λ r. ⌜ r ≡ place-of self ⌝ }
+    {
+        match self {
+            PictureFault::Header(place) => place,
+            PictureFault::Side(place) => place,
+            PictureFault::Length(place) => place,
+        }
+    }
+}
+
+// What a header tells, and where the height stands in it.
+#[derive(Clone, Copy)]
+struct Sides {
+    width: u16,
+    height: u16,
+    height_at: usize,
+    start: usize,
+}
+
+/// The sides of the picture in a file, and where its cells begin.
+///
+/// The file is `P5` and a newline; the width, a blank, the height and a newline; `255` and a newline; then one byte
+/// for each cell. A side has one to four digits, the first not 0.
+/// Refuses, in this order, 19 a header not of this form, 1 a side above 1,024, 20 too few or too many bytes after the header.
+pub fn read_picture(bytes: &[u8]) -> Result<Picture, PictureFault>
+    ensures answers { λ r. ⌜ r ≡ read (now (bytes .entry)) ⌝ }
+    ensures within { λ r. ⌜ made r (Fills (now (bytes .entry))) ⌝ }
+    ensures back { λ _. ⌜ Reads-back-pictures ⌝ }
+    ensures only { λ _. ⌜ Reads-only-pictures ⌝ }
+    ensures wrong { λ _. ⌜ Refuses-what-is-wrong ⌝ }
+{
+    match read_header(bytes) {
+        Ok(sides) => check_size(sides, bytes.len()),
+        Err(misfit) => Err(PictureFault::Header(misfit.place)),
+    }
+}
+
+// The sides in a header, at which the file starts.
+fn read_header(bytes: &[u8]) -> Result<Sides, Misfit>
+    ensures answers { λ r. ⌜ Cases r (λ s. scan header-form (now (bytes .entry)) 0 ≡ Ok (record { numbers = s .width ∷ s .height ∷ []; end = s .start })) (λ misfit. scan header-form (now (bytes .entry)) 0 ≡ Err misfit) ⌝ }
+    ensures within { λ r. ⌜ made r (λ s. (s .«height_at» ≡ height-at (s .width)) × (s .start ≤ length (now (bytes .entry)))) ⌝ }
+{
+    let width_at = fixed(bytes, 0, b"P5\n")?;
+    let width = number(bytes, width_at, 1)?;
+    let height_at = fixed(bytes, width.end, b" ")?;
+    let height = number(bytes, height_at, 1)?;
+    let start = fixed(bytes, height.end, b"\n255\n")?;
+    Ok(Sides {
+        width: width.value,
+        height: height.value,
+        height_at,
+        start,
+    })
+}
+
+// The picture of these sides, in a file of `len` bytes.
+fn check_size(sides: Sides, len: usize) -> Result<Picture, PictureFault>
+    requires { ⌜ sides .«height_at» ≡ height-at (sides .width) ⌝ ∗ ⌜ sides .start ≤ len ⌝ }
+    ensures { λ r. ⌜ r ≡ sized (sides .width) (sides .height) (sides .start) len ⌝ }
+{
+    if sides.width > 1024 {
+        return Err(PictureFault::Side(3));
+    }
+    if sides.height > 1024 {
+        return Err(PictureFault::Side(sides.height_at));
+    }
+    let width = usize::from(sides.width);
+    let height = usize::from(sides.height);
+    let cells = width * height;
+    if len - sides.start < cells {
+        return Err(PictureFault::Length(len));
+    }
+    if len - sides.start > cells {
+        return Err(PictureFault::Length(sides.start + cells));
+    }
+    Ok(Picture {
+        width,
+        height,
+        start: sides.start,
+    })
+}
+
+#[cfg(test)]
+mod tests {
+    use super::*;
+    use std::test::*;
+
+    #[test]
+    fn files() -> Result<(), Fail> {
+        check_eq(
+            read_picture(b"P5\n1 1\n255\n\0"),
+            Ok(Picture {
+                width: 1,
+                height: 1,
+                start: 11,
+            }),
+        )?;
+        check_eq(
+            read_picture(b"P5\n3 2\n255\nabcdef"),
+            Ok(Picture {
+                width: 3,
+                height: 2,
+                start: 11,
+            }),
+        )?;
+        let refused = [
+            ("", 19, 0),
+            ("P", 19, 1),
+            ("P5", 19, 2),
+            ("P5\n", 19, 3),
+            ("P5\n3", 19, 4),
+            ("P5\n3 ", 19, 5),
+            ("P5\n3 2", 19, 6),
+            ("P5\n3 2\n", 19, 7),
+            ("P5\n3 2\n2", 19, 8),
+            ("P5\n3 2\n25", 19, 9),
+            ("P5\n3 2\n255", 19, 10),
+            ("\0", 19, 0),
+            ("P6\n3 2\n255\nabcdef", 19, 1),
+            ("P5\n\0", 19, 3),
+            ("P5\n0 2", 19, 3),
+            ("P5\n3\n2", 19, 4),
+            ("P5\n3  2", 19, 5),
+            ("P5\n3 02", 19, 5),
+            ("P5\n10000 1", 19, 7),
+            ("P5\n1025 1\n25", 19, 12),
+            ("P5\n1025 1\n255\n", 1, 3),
+            ("P5\n9999 9999\n255\n", 1, 3),
+            ("P5\n1024 1025\n255\n", 1, 8),
+            ("P5\n1024 1\n255\n", 20, 14),
+            ("P5\n1 1024\n255\n", 20, 14),
+            ("P5\n3 2\n255\n", 20, 11),
+            ("P5\n3 2\n255\nabcde", 20, 16),
+            ("P5\n3 2\n255\nabcdefg", 20, 17),
+        ];
+        for (file, number, place) in refused {
+            let Err(fault) = read_picture(file.as_bytes()) else {
+                return Err(Fail::new("a file that is no picture is accepted"));
+            };
+            check_eq((fault.number(), fault.place()), (number, place))?;
+        }
+        Ok(())
+    }
+}

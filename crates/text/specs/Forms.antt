@@ -1,0 +1,135 @@
+-- Texts of a form: fixed bytes and numbers, one after the other.
+use mathlib.Core.Path.{_≡_}
+use mathlib.Core.Bool.{cond, false}
+use mathlib.Core.List.{List, [], _∷_, _++_}
+use Prim.Native.Nat.{ℕ, _+_, _-_, _≤_}
+use lib.Dec.{leb}
+use lib.ListN.{length, getD, drop}
+use Rattle.std.specs.Results.{Cases}
+use Rattle.std.specs.Text.{asciiDigit}
+use Rattle.std.specs.Written.{decimal}
+use Rattle.std.specs.declared.result.Result.{Result}
+use Rattle.std.specs.declared.result.Result.the-variants.{Ok, Err}
+use Rattle.text.specs.declared.Misfit.{Misfit}
+use Rattle.text.specs.declared.Numeral.{Numeral}
+use Rattle.text.specs.Misfits.{First-misfit}
+use Rattle.text.specs.Pieces.{refused-at, fixed-at, number-at}
+
+-- what stands in a text, in order
+pub data Form : Type 0 where
+  -- whatever follows
+  anything : Form
+  -- the text ends
+  nothing : Form
+  -- these bytes
+  fixed : List ℕ → Form → Form
+  -- a number from this one on, in decimal, at most 9,999
+  number : ℕ → Form → Form
+
+-- what a form writes of its numbers
+abbrev pub written : Form → List ℕ → List ℕ
+written anything ns = []
+written nothing ns = []
+written (fixed bytes form) ns = bytes ++ written form ns
+written (number least form) [] = []
+written (number least form) (n ∷ ns) = decimal n ++ written form ns
+
+-- the form takes these numbers, with this after what it writes of them
+abbrev pub Takes : Form → List ℕ → List ℕ → Type 0
+Takes anything ns rest = ns ≡ []
+Takes nothing ns rest = (ns ≡ []) × (rest ≡ [])
+Takes (fixed bytes form) ns rest = Takes form ns rest
+Takes (number least form) [] rest = ⊥
+Takes (number least form) (n ∷ ns) rest = (least ≤ n) × (n ≤ 9999) × Takes form ns rest
+
+-- a text of a form
+pub record Of-form (form : Form) (text : List ℕ) : Type 0 where
+  pub numbers : List ℕ
+  pub rest : List ℕ
+  pub takes : Takes form numbers rest
+  pub same : text ≡ written form numbers ++ rest
+
+-- the texts that start with these bytes
+abbrev pub Starts-with : List ℕ → List ℕ → Type 0
+Starts-with wanted = Of-form (fixed wanted anything)
+
+-- the fixed bytes stand at `at`
+pub record Fixed-there (wanted bytes : List ℕ) (at end : ℕ) : Type 0 where
+  pub spells : drop at bytes ≡ wanted ++ drop end bytes
+  pub ends : end ≡ at + length wanted
+  pub within : end ≤ length bytes
+
+-- the first of the fixed bytes that does not stand there
+pub record Fixed-missing (wanted bytes : List ℕ) (at place : ℕ) : Type 0 where
+  pub from : at ≤ place
+  pub within : place ≤ length bytes
+  pub first : First-misfit (Starts-with wanted) (drop at bytes) (place - at)
+
+-- the place after the fixed bytes is the one told, or the misfit is where they first do not stand
+abbrev pub Tells-fixed : List ℕ → List ℕ → ℕ → Result ℕ Misfit → Type 0
+Tells-fixed wanted bytes at r =
+    Cases r (λ end. Fixed-there wanted bytes at end) (λ misfit. Fixed-missing wanted bytes at (misfit .place))
+
+-- what follows a number starts with no digit
+abbrev pub Starts-plain : Form → Type 0
+Starts-plain anything = ⊥
+Starts-plain nothing = Unit {0}
+Starts-plain (fixed [] form) = ⊥
+Starts-plain (fixed (b ∷ bytes) form) = asciiDigit b ≡ false
+Starts-plain (number least form) = ⊥
+
+-- where a number ends can be told, and its least is 0 or 1
+abbrev pub Clear : Form → Type 0
+Clear anything = Unit {0}
+Clear nothing = Unit {0}
+Clear (fixed bytes form) = Clear form
+Clear (number least form) = (least ≤ 1) × Starts-plain form × Clear form
+
+-- the numbers that were read, and the place after the last byte
+pub record Reading : Type 0 where
+  pub numbers : List ℕ
+  pub end : ℕ
+
+-- a number read before the others
+abbrev pub before : ℕ → Result Reading Misfit → Result Reading Misfit
+before n (Ok reading) = Ok (record { numbers = n ∷ reading .numbers; end = reading .end })
+before n (Err misfit) = Err misfit
+
+-- a text read by a form, from `at` on
+abbrev pub scan : Form → List ℕ → ℕ → Result Reading Misfit
+scan anything bytes at = Ok (record { numbers = []; end = at })
+scan nothing bytes at = cond (leb (length bytes) at) (Ok (record { numbers = []; end = at })) (refused-at at)
+scan (fixed wanted form) bytes at =
+    elim (fixed-at wanted bytes at) [ Ok end ↦ scan form bytes end | Err misfit ↦ Err misfit ]
+scan (number least form) bytes at =
+    elim (number-at least bytes at) [ Ok n ↦ before (n .value) (scan form bytes (n .end)) | Err misfit ↦ Err misfit ]
+
+-- what a form writes of numbers that it takes is read back as those numbers
+abbrev pub Reads-back : Type 0
+Reads-back =
+    (form : Form) (ns rest bytes : List ℕ) (at : ℕ) → Clear form → Takes form ns rest → at ≤ length bytes
+    → drop at bytes ≡ written form ns ++ rest
+    → scan form bytes at ≡ Ok (record { numbers = ns; end = at + length (written form ns) })
+
+-- a text that was read is what the form writes of the numbers, up to the place told
+pub record Was-written (form : Form) (bytes : List ℕ) (at : ℕ) (reading : Reading) : Type 0 where
+  pub takes : Takes form (reading .numbers) (drop (reading .end) bytes)
+  pub writes : drop at bytes ≡ written form (reading .numbers) ++ drop (reading .end) bytes
+  pub ends : reading .end ≡ at + length (written form (reading .numbers))
+  pub within : reading .end ≤ length bytes
+
+abbrev pub Reads-what-was-written : Type 0
+Reads-what-was-written =
+    (form : Form) (bytes : List ℕ) (at : ℕ) (reading : Reading) → Clear form → at ≤ length bytes
+    → scan form bytes at ≡ Ok reading → Was-written form bytes at reading
+
+-- a text that was refused was refused at its first misfit
+pub record Refused (form : Form) (bytes : List ℕ) (at : ℕ) (misfit : Misfit) : Type 0 where
+  pub from : at ≤ misfit .place
+  pub first : First-misfit (Of-form form) (drop at bytes) (misfit .place - at)
+
+abbrev pub Refuses-at-first-misfit : Type 0
+Refuses-at-first-misfit =
+    (form : Form) (bytes : List ℕ) (at : ℕ) (misfit : Misfit) → Clear form → at ≤ length bytes
+    → scan form bytes at ≡ Err misfit
+    → Refused form bytes at misfit

@@ -1,5 +1,6 @@
 // Jobs: the bytes of a card, a picture and job lines in, the printed lines out.
 mod answers;
 mod faults;
+mod obey;
 
 pub use faults::JobFault;

@@ -1,2 +1,3 @@
+pub mod Gray
 pub mod Heat
 pub mod Mask

@@ -28,16 +28,19 @@ pub read-after : (ns : List ℕ) (end : ℕ) → all-before ns (Ok (record { num
 read-after [] end = refl
 read-after (n ∷ ns) end = ap (before n) (read-after ns end)
 
-pub one-more-read : (count : ℕ) (line : List ℕ) (at start : ℕ) (n : Numeral) → fixed-at (32 ∷ []) line at ≡ Ok start → number-at 0 line start ≡ Ok n
+-- how the reading goes on after one blank and a number, from what the two were read as
+pub one-more-read : (count : ℕ) (line : List ℕ) (at start : ℕ) (n : Numeral) → Ok start ≡ fixed-at (32 ∷ []) line at → Ok n ≡ number-at 0 line start
     → scan (arguments (suc count)) line at ≡ before (n .value) (scan (arguments count) line (n .end))
 one-more-read count line at start n blank read =
-    scan-fixed (32 ∷ []) (number 0 (arguments count)) line at start blank ∙ scan-number 0 (arguments count) line start n read
+    scan-fixed (32 ∷ []) (number 0 (arguments count)) line at start (sym blank)
+    ∙ scan-number 0 (arguments count) line start n (sym read)
 
-pub one-more-refused : (count : ℕ) (line : List ℕ) (at start : ℕ) (misfit : Misfit) → fixed-at (32 ∷ []) line at ≡ Ok start
-    → number-at 0 line start ≡ Err misfit → scan (arguments (suc count)) line at ≡ Err misfit
+pub one-more-refused : (count : ℕ) (line : List ℕ) (at start : ℕ) (misfit : Misfit) → Ok start ≡ fixed-at (32 ∷ []) line at
+    → Err misfit ≡ number-at 0 line start → scan (arguments (suc count)) line at ≡ Err misfit
 one-more-refused count line at start misfit blank read =
-    scan-fixed (32 ∷ []) (number 0 (arguments count)) line at start blank ∙ scan-number-refused 0 (arguments count) line start misfit read
+    scan-fixed (32 ∷ []) (number 0 (arguments count)) line at start (sym blank)
+    ∙ scan-number-refused 0 (arguments count) line start misfit (sym read)
 
-pub blank-refused : (count : ℕ) (line : List ℕ) (at : ℕ) (misfit : Misfit) → fixed-at (32 ∷ []) line at ≡ Err misfit
+pub blank-refused : (count : ℕ) (line : List ℕ) (at : ℕ) (misfit : Misfit) → Err misfit ≡ fixed-at (32 ∷ []) line at
     → scan (arguments (suc count)) line at ≡ Err misfit
-blank-refused count line at misfit blank = scan-fixed-refused (32 ∷ []) (number 0 (arguments count)) line at misfit blank
+blank-refused count line at misfit blank = scan-fixed-refused (32 ∷ []) (number 0 (arguments count)) line at misfit (sym blank)

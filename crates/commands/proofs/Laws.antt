@@ -1,8 +1,6 @@
 -- A line is read as the command whose line it is, or refused at its first misfit.
 use mathlib.Core.Path.{_≡_, refl, sym, _∙_, ap, subst}
-use mathlib.Core.Bool.{Bool, true, false, cond}
 use mathlib.Core.List.{List, [], _∷_, _++_}
-use mathlib.Core.Logic.{_⊎_, inl, inr}
 use Prim.Native.Nat.{ℕ, zero, suc, _+_, _-_, _≤_}
 use native.Mathlib.Omega.{arith}
 use lib.Dec.{eqb}
@@ -10,7 +8,6 @@ use lib.ListN.{length, getD, take, drop}
 use Rattle.std.proofs.shelf.Lists.{append-nil, getD-take, nil-from-length}
 use Rattle.std.proofs.shelf.Results.{cases-at-ok, cases-at-err}
 use Rattle.std.proofs.shelf.Tests.{cond-both, eqb-true}
-use Rattle.std.proofs.shelf.Ways.{tells}
 use Rattle.std.specs.Results.{Cases}
 use Rattle.std.specs.Written.{decimal}
 use Rattle.std.specs.declared.option.Option.{Option}
@@ -19,13 +16,12 @@ use Rattle.std.specs.declared.result.Result.{Result}
 use Rattle.std.specs.declared.result.Result.the-variants.{Ok, Err}
 use Rattle.text.specs.declared.Misfit.{Misfit}
 use Rattle.text.specs.Forms as forms
-use Rattle.text.specs.Forms.{Form, Clear, Takes, Of-form, Reading, scan, Was-written, Refused}
+use Rattle.text.specs.Forms.{Takes, Of-form, Reading, scan}
 use Rattle.text.specs.Misfits.{First-misfit}
-use Rattle.text.proofs.Forms.{reads-back, reads-what-was-written, refuses-at-first-misfit}
+use Rattle.text.proofs.Forms.{Clear, reads-back, reads-what-was-written, refuses-at-first-misfit}
 use Rattle.text.proofs.Misfits.{misfit-at-once, misfit-after}
 use Rattle.commands.specs.declared.Command.{Command}
 use Rattle.commands.specs.declared.Command.the-variants.{Begin, Load, Erode, Dilate, Area, End}
-use Rattle.commands.specs.declared.LineFault.{LineFault}
 use Rattle.commands.specs.Lines.{letter, numbers, spaced, written, All-in-range, In-range, Lawful}
 use Rattle.commands.specs.Reading.{arguments, Kind, one, two, kind, made, made-by, command-on, by-column, read, Reads-back-lines, Reads-only-lines, Refuses-lines-at-misfit}
 

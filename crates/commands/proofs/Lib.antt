@@ -1,2 +1,3 @@
+-- The laws of reading a line.
 pub mod Arguments
 pub mod Laws

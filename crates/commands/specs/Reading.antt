@@ -4,7 +4,8 @@ use mathlib.Core.Bool.{cond}
 use mathlib.Core.List.{List, [], _∷_}
 use Prim.Native.Nat.{ℕ, zero, suc, _+_, _-_, _≤_}
 use lib.Dec.{eqb}
-use lib.ListN.{getD}
+use lib.ListN.{length, getD}
+use Rattle.std.specs.Results.{Cases}
 use Rattle.std.specs.declared.option.Option.{Option}
 use Rattle.std.specs.declared.option.Option.the-variants.{Some, None}
 use Rattle.std.specs.declared.result.Result.{Result}
@@ -22,6 +23,12 @@ use Rattle.commands.specs.Lines.{written, In-range, Lawful}
 abbrev pub arguments : ℕ → Form
 arguments zero = nothing
 arguments (suc count) = fixed (32 ∷ []) (number 0 (arguments count))
+
+-- the line has these numbers after its letter, and ends; or it is refused where the form does not fit
+abbrev pub Tells-arguments : ℕ → List ℕ → Result (List ℕ) Misfit → Type 0
+Tells-arguments count line r =
+    Cases r (λ ns. scan (arguments count) line 1 ≡ Ok (record { numbers = ns; end = length line }))
+    (λ misfit. scan (arguments count) line 1 ≡ Err misfit)
 
 -- a kind of command: how many numbers it has, and the command of them
 pub record Kind : Type 0 where

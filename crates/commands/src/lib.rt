@@ -1,9 +1,8 @@
 //! The commands of a job, and how a job's line is read as one.
-ghost use Rattle.commands.specs.Reading.{arguments, command-on, read, Reads-back-lines, Reads-only-lines, Refuses-lines-at-misfit};
 ghost use Prim.Native.Nat.{_≤_};
+ghost use Rattle.commands.specs.Reading.{command-on, read, Tells-arguments, Reads-back-lines, Reads-only-lines, Refuses-lines-at-misfit};
 ghost use Rattle.std.specs.Results.{Cases};
-ghost use Rattle.std.specs.declared.result.Result.the-variants.{Ok, Err};
-ghost use Rattle.text.specs.Forms.{scan};
+ghost use Rattle.std.specs.Vec.{refused};
 ghost use lib.ListN.{length};
 ghost use mathlib.Core.Path.{_≡_};
 use text::Misfit;
@@ -64,7 +63,7 @@ pub fn read_line(line: &[u8]) -> Result<Command, LineFault>
 // The command on a line, or the place of the line's first misfit.
 fn command_on(line: &[u8]) -> Result<Command, Misfit>
     ensures answers { λ r. ⌜ r ≡ command-on (now (line .entry)) ⌝ }
-    ensures within { λ r. ⌜ Cases r (λ _. 0 ≤ 0) (λ misfit. misfit .place ≤ length (now (line .entry))) ⌝ }
+    ensures within { λ r. ⌜ refused r (λ misfit. misfit .place ≤ length (now (line .entry))) ⌝ }
 {
     if line.is_empty() {
         return Err(Misfit { place: 0 });
@@ -101,7 +100,7 @@ fn command_on(line: &[u8]) -> Result<Command, Misfit>
 // The numbers after the letter, as many as are asked for, each after one blank, with nothing after the last.
 fn numbers<const N: usize>(line: &[u8]) -> Result<[u16; N], Misfit>
     requires { ⌜ 1 ≤ length (now line) ⌝ }
-    ensures answers { λ r. ⌜ Cases r (λ ns. scan (arguments N) (now (line .entry)) 1 ≡ Ok (record { numbers = ns; end = length (now (line .entry)) })) (λ misfit. scan (arguments N) (now (line .entry)) 1 ≡ Err misfit) ⌝ }
+    ensures answers { λ r. ⌜ Tells-arguments N (now (line .entry)) r ⌝ }
     ensures within { λ r. ⌜ Cases r (λ ns. length ns ≡ N) (λ misfit. misfit .place ≤ length (now (line .entry))) ⌝ }
 {
     let mut numbers = [0; N];

@@ -12,16 +12,26 @@ use Rattle.morphology.specs.Sheets.{area}
 use Rattle.morphology.specs.declared.operation.Operation.the-variants.{Erosion, Dilation}
 use Rattle.commands.specs.declared.Command.{Command}
 use Rattle.commands.specs.declared.Command.the-variants.{Begin, Load, Erode, Dilate, Area, End}
+use Rattle.commands.specs.declared.LineFault.{LineFault}
+use Rattle.commands.specs.Reading.{read}
+use Rattle.levels.specs.declared.gray.Gray.{Gray}
+use Rattle.levels.specs.Gray.{gray-height}
 use Rattle.bench.specs.declared.fault.Fault.{Fault}
-use Rattle.bench.specs.Model.{State}
+use Rattle.bench.specs.declared.rack.Rack.{Rack}
+use Rattle.bench.specs.declared.slate.Slate.{Slate}
+use Rattle.bench.specs.Model.{State, rack-state, slate-state}
 use Rattle.bench.specs.Calls.{begin-refusal, end-refusal, ended, load-refusal, load-leaves, operate-leaves, transform-refusal, unless, visited}
 use Rattle.jobs.specs.declared.faults.JobFault.{JobFault}
-use Rattle.jobs.specs.declared.faults.JobFault.the-variants.{Bench}
+use Rattle.jobs.specs.declared.faults.JobFault.the-variants.{Bench, Line}
 
 -- the bench of a job: its rack and its slate
 pub record Benches : Type 0 where
   pub rack : State ℕ
   pub slate : State ℤ
+
+-- the bench of a rack and a slate
+abbrev pub benches : Rack Gray → Slate → Benches
+benches rack slate = record { rack = rack-state gray-height rack; slate = slate-state slate }
 
 -- the refusal of a command, if any; the slip that end gets is that of the open visit, and 0 stands for none
 abbrev pub command-refusal : List ℕ → Benches → Command → Option Fault
@@ -61,3 +71,18 @@ command-leaves offsets picture b (Area place) = b
 command-leaves offsets picture b End =
     let refused = end-refusal (b .rack .outline) (b .slate .outline) (valueOr (b .rack .outline .visit) 0) in
     record { rack = unless refused (ended (b .rack)) (b .rack); slate = unless refused (ended (b .slate)) (b .slate) }
+
+-- the answer to a line, and the bench after it: a line that is no command is refused and leaves the bench as it is
+abbrev pub answer-to : List ℕ → Benches → Result Command LineFault → Result (Option ℕ) JobFault
+answer-to picture b (Ok command) = command-answer picture b command
+answer-to picture b (Err fault) = Err (Line fault)
+
+abbrev pub line-answer : List ℕ → Benches → List ℕ → Result (Option ℕ) JobFault
+line-answer picture b line = answer-to picture b (read line)
+
+abbrev pub leaves-after : List (ℤ × ℤ) → List ℕ → Benches → Result Command LineFault → Benches
+leaves-after offsets picture b (Ok command) = command-leaves offsets picture b command
+leaves-after offsets picture b (Err fault) = b
+
+abbrev pub line-leaves : List (ℤ × ℤ) → List ℕ → Benches → List ℕ → Benches
+line-leaves offsets picture b line = leaves-after offsets picture b (read line)

@@ -17,3 +17,9 @@ pub record Holds (slip : Option Slip) (rack slate : Outline) : Type 0 where
   pub on-slate : slate .visit ≡ slip-flat slip
   pub w : rack .w ≡ slate .w
   pub h : rack .h ≡ slate .h
+
+-- the sides and the visit are as they were
+pub record Keeps (was is : Outline) : Type 0 where
+  pub visit : is .visit ≡ was .visit
+  pub w : is .w ≡ was .w
+  pub h : is .h ≡ was .h

@@ -2,5 +2,6 @@
 mod answers;
 mod faults;
 mod obey;
+mod visits;
 
 pub use faults::JobFault;

@@ -1,12 +1,11 @@
 -- A file is read as the picture whose file it is, or refused for what is wrong with it.
 use mathlib.Core.Path.{_≡_, refl, sym, _∙_, ap, subst}
-use mathlib.Core.Bool.{cond}
 use mathlib.Core.List.{List, [], _∷_, _++_}
-use mathlib.Core.Logic.{_⊎_, inl, inr}
-use Prim.Native.Nat.{ℕ, _+_, _-_, _*_, _≤_, _<_, min}
+use mathlib.Core.Logic.{inl, inr}
+use Prim.Native.Nat.{ℕ, _+_, _-_, _*_, _≤_}
 use native.Mathlib.Omega.{arith}
 use lib.Dec.{eqb, ltb}
-use lib.ListN.{length, getD, take, drop}
+use lib.ListN.{length, getD, drop}
 use Rattle.std.proofs.shelf.Lists.{length-append}
 use Rattle.std.proofs.shelf.Results.{cases-at-ok, cases-at-err}
 use Rattle.std.proofs.shelf.Tests.{cond-both, cond-true, cond-false, eqb-true, eqb-false, eq-eqb, ltb-true, ltb-false, le-ltb}
@@ -15,14 +14,13 @@ use Rattle.std.specs.Vec.{made}
 use Rattle.std.specs.declared.result.Result.{Result}
 use Rattle.std.specs.declared.result.Result.the-variants.{Ok, Err}
 use Rattle.text.specs.declared.Misfit.{Misfit}
-use Rattle.text.specs.Forms.{Clear, Takes, Of-form, Reading, scan, written}
+use Rattle.text.specs.Forms.{Takes, Of-form, Reading, scan, written}
 use Rattle.text.specs.Misfits.{First-misfit}
-use Rattle.text.proofs.Forms.{reads-back, reads-what-was-written, refuses-at-first-misfit}
+use Rattle.text.proofs.Forms.{Clear, reads-back, reads-what-was-written, refuses-at-first-misfit}
 use Rattle.text.proofs.Misfits.{misfit-after}
 use Rattle.pictures.specs.declared.Picture.{Picture}
 use Rattle.pictures.specs.declared.PictureFault.{PictureFault}
-use Rattle.pictures.specs.declared.PictureFault.the-variants.{Header, Side, Length}
-use Rattle.pictures.specs.Headers.{header, width-at, height-at, Told, Lawful-side, With-header, Is-file, Fills, Wrong}
+use Rattle.pictures.specs.Headers.{header, Told, With-header, Is-file, Fills, Wrong}
 use Rattle.pictures.specs.Reading.{header-form, sized, pictured, read, Reads-back-pictures, Reads-only-pictures, Refuses-what-is-wrong}
 
 clear : Clear header-form

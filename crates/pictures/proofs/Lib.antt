@@ -1,1 +1,2 @@
+-- The laws of reading a picture file.
 pub mod Laws

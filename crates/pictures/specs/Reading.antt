@@ -19,6 +19,10 @@ use Rattle.pictures.specs.Headers.{opening, closing, header, width-at, height-
 abbrev pub header-form : Form
 header-form = forms.fixed opening (forms.number 1 (forms.fixed (32 ∷ []) (forms.number 1 (forms.fixed closing forms.anything))))
 
+-- what reading by that form gives at the start of a file
+abbrev pub Scans-as : List ℕ → Result Reading Misfit → Type 0
+Scans-as bytes r = scan header-form bytes 0 ≡ r
+
 -- sides above 1,024 are refused, and then a length that is not the header's and the cells'
 abbrev pub sized : ℕ → ℕ → ℕ → ℕ → Result Picture PictureFault
 sized w h start long =

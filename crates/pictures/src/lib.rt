@@ -1,11 +1,10 @@
 //! Picture files: how the header of one is read, and what is refused.
 ghost use Prim.Native.Nat.{_≤_};
 ghost use Rattle.pictures.specs.Headers.{height-at, number-of, place-of, Fills};
-ghost use Rattle.pictures.specs.Reading.{header-form, read, sized, Reads-back-pictures, Reads-only-pictures, Refuses-what-is-wrong};
+ghost use Rattle.pictures.specs.Reading.{read, sized, Scans-as, Reads-back-pictures, Reads-only-pictures, Refuses-what-is-wrong};
 ghost use Rattle.std.specs.Results.{Cases};
 ghost use Rattle.std.specs.Vec.{made};
 ghost use Rattle.std.specs.declared.result.Result.the-variants.{Ok, Err};
-ghost use Rattle.text.specs.Forms.{scan};
 ghost use lib.ListN.{length};
 ghost use mathlib.Core.List.{[], _∷_};
 ghost use mathlib.Core.Path.{_≡_};
@@ -56,6 +55,12 @@ impl PictureFault {
     }
 }
 
+// The largest side that a picture may have.
+const LARGEST_SIDE: u16 = 1_024;
+
+// The place of the width's first digit, after `P5` and a newline.
+const WIDTH_AT: usize = 3;
+
 // What a header tells, and where the height stands in it.
 #[derive(Clone, Copy)]
 struct Sides {
@@ -83,9 +88,9 @@ pub fn read_picture(bytes: &[u8]) -> Result<Picture, PictureFault>
     }
 }
 
-// The sides in a header, at which the file starts.
+// The sides in the header that the file starts with.
 fn read_header(bytes: &[u8]) -> Result<Sides, Misfit>
-    ensures answers { λ r. ⌜ Cases r (λ s. scan header-form (now (bytes .entry)) 0 ≡ Ok (record { numbers = s .width ∷ s .height ∷ []; end = s .start })) (λ misfit. scan header-form (now (bytes .entry)) 0 ≡ Err misfit) ⌝ }
+    ensures answers { λ r. ⌜ Cases r (λ s. Scans-as (now (bytes .entry)) (Ok (record { numbers = s .width ∷ s .height ∷ []; end = s .start }))) (λ misfit. Scans-as (now (bytes .entry)) (Err misfit)) ⌝ }
     ensures within { λ r. ⌜ made r (λ s. (s .«height_at» ≡ height-at (s .width)) × (s .start ≤ length (now (bytes .entry)))) ⌝ }
 {
     let width_at = fixed(bytes, 0, b"P5\n")?;
@@ -106,10 +111,10 @@ fn check_size(sides: Sides, len: usize) -> Result<Picture, PictureFault>
     requires { ⌜ sides .«height_at» ≡ height-at (sides .width) ⌝ ∗ ⌜ sides .start ≤ len ⌝ }
     ensures { λ r. ⌜ r ≡ sized (sides .width) (sides .height) (sides .start) len ⌝ }
 {
-    if sides.width > 1024 {
-        return Err(PictureFault::Side(3));
+    if sides.width > LARGEST_SIDE {
+        return Err(PictureFault::Side(WIDTH_AT));
     }
-    if sides.height > 1024 {
+    if sides.height > LARGEST_SIDE {
         return Err(PictureFault::Side(sides.height_at));
     }
     let width = usize::from(sides.width);

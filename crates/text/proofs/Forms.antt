@@ -1,12 +1,11 @@
 -- A text is read by a form as what the form writes, or is refused at its first misfit.
 use mathlib.Core.Path.{_≡_, refl, sym, _∙_, ap, subst}
-use mathlib.Core.Bool.{true, false, cond}
+use mathlib.Core.Bool.{true, false}
 use mathlib.Core.List.{List, [], _∷_, _++_, append-assoc}
 use mathlib.Core.Logic.{_⊎_, inl, inr}
-use Prim.Native.Nat.{ℕ, zero, suc, _+_, _-_, _≤_, _<_}
+use Prim.Native.Nat.{ℕ, _+_, _-_, _≤_, _<_}
 use native.Mathlib.Omega.{arith}
-use native.Mathlib.Numerals.{add-one}
-use lib.Dec.{eqb, ltb, leb}
+use lib.Dec.{leb}
 use lib.ListN.{length, getD, take, drop}
 use Rattle.std.proofs.shelf.Lists.{length-append, length-drop, length-take, getD-take, drop-all, drop-more, getD-drop, append-cancel-left}
 use Rattle.std.proofs.shelf.Results.{cases-weaker, cases-at-ok, cases-at-err}
@@ -19,11 +18,38 @@ use Rattle.std.specs.declared.result.Result.{Result}
 use Rattle.std.specs.declared.result.Result.the-variants.{Ok, Err}
 use Rattle.text.specs.declared.Misfit.{Misfit}
 use Rattle.text.specs.declared.Numeral.{Numeral}
-use Rattle.text.specs.Misfits.{Begins, First-misfit}
-use Rattle.text.specs.Pieces.{stands, fixed-at, figures, front-value, number-at, refused-at, Number-there}
-use Rattle.text.specs.Forms.{Form, anything, nothing, fixed, number, written, Takes, Of-form, Starts-plain, Clear, Reading, before, scan, Reads-back, Was-written, Reads-what-was-written, Refused, Refuses-at-first-misfit, Fixed-there, Fixed-missing, Tells-fixed}
+use Rattle.text.specs.Misfits.{First-misfit}
+use Rattle.text.specs.Pieces.{stands, fixed-at, figures, front-value, number-at, refused-at}
+use Rattle.text.specs.Forms.{Form, anything, nothing, fixed, number, written, Takes, Of-form, Reading, before, scan, Fixed-there, Tells-fixed}
 use Rattle.text.proofs.Misfits.{misfit-at-once, misfit-after}
 use Rattle.text.proofs.Numbers.{Front, first-of, none-starts, number-answers, same-number}
+
+-- what follows a number starts with no digit
+abbrev pub Starts-plain : Form → Type 0
+Starts-plain anything = ⊥
+Starts-plain nothing = Unit {0}
+Starts-plain (fixed [] form) = ⊥
+Starts-plain (fixed (b ∷ bytes) form) = asciiDigit b ≡ false
+Starts-plain (number least form) = ⊥
+
+-- where a number ends can be told, and its least is 0 or 1
+abbrev pub Clear : Form → Type 0
+Clear anything = Unit {0}
+Clear nothing = Unit {0}
+Clear (fixed bytes form) = Clear form
+Clear (number least form) = (least ≤ 1) × Starts-plain form × Clear form
+
+-- a text that was read is what the form writes of the numbers, up to the place told
+pub record Was-written (form : Form) (bytes : List ℕ) (at : ℕ) (reading : Reading) : Type 0 where
+  pub takes : Takes form (reading .numbers) (drop (reading .end) bytes)
+  pub writes : drop at bytes ≡ written form (reading .numbers) ++ drop (reading .end) bytes
+  pub ends : reading .end ≡ at + length (written form (reading .numbers))
+  pub within : reading .end ≤ length bytes
+
+-- a text that was refused was refused at its first misfit
+pub record Refused (form : Form) (bytes : List ℕ) (at : ℕ) (misfit : Misfit) : Type 0 where
+  pub from : at ≤ misfit .place
+  pub first : First-misfit (Of-form form) (drop at bytes) (misfit .place - at)
 
 after-front : (front text tail rest : List ℕ) → text ≡ tail ++ rest → front ++ text ≡ (front ++ tail) ++ rest
 after-front front text tail rest same = ap (λ (t : List ℕ). front ++ t) same ∙ sym (append-assoc front tail rest)
@@ -262,11 +288,13 @@ tells-fixed wanted bytes at within =
           (record { from = refused .from; within = refused .within; first = refused .first anything tt })
     ]
 
-pub reads-what-was-written : Reads-what-was-written
+pub reads-what-was-written : (form : Form) (bytes : List ℕ) (at : ℕ) (reading : Reading) → Clear form → at ≤ length bytes
+    → scan form bytes at ≡ Ok reading → Was-written form bytes at reading
 reads-what-was-written form bytes at reading clear within answer =
     cases-at-ok (Was-written form bytes at) (Refused form bytes at) reading answer (scanned form clear bytes at within)
 
-pub refuses-at-first-misfit : Refuses-at-first-misfit
+pub refuses-at-first-misfit : (form : Form) (bytes : List ℕ) (at : ℕ) (misfit : Misfit) → Clear form → at ≤ length bytes
+    → scan form bytes at ≡ Err misfit → Refused form bytes at misfit
 refuses-at-first-misfit form bytes at misfit clear within answer =
     cases-at-err (Was-written form bytes at) (Refused form bytes at) misfit answer (scanned form clear bytes at within)
 
@@ -274,7 +302,10 @@ same-reading : (ms ns : List ℕ) (i j : ℕ) → ms ≡ ns → i ≡ j
     → _≡_ {A = Result Reading Misfit} (Ok (record { numbers = ms; end = i })) (Ok (record { numbers = ns; end = j }))
 same-reading ms ns i j e f = cc
 
-pub reads-back : Reads-back
+-- what a form writes of numbers that it takes is read back as those numbers
+pub reads-back : (form : Form) (ns rest bytes : List ℕ) (at : ℕ) → Clear form → Takes form ns rest → at ≤ length bytes
+    → drop at bytes ≡ written form ns ++ rest
+    → scan form bytes at ≡ Ok (record { numbers = ns; end = at + length (written form ns) })
 reads-back anything ns rest bytes at clear takes within same = same-reading [] ns at (at + 0) (sym takes) (omega arith)
 reads-back nothing ns rest bytes at clear takes within same =
     let all : length bytes ≤ at = omega (arith, length-drop at bytes, ap length (same ∙ takes .1)) in

@@ -1,14 +1,14 @@
 -- How the first misfit of a text is found: at its first byte, or after a front that all lawful texts in question share.
 use mathlib.Core.Path.{_≡_, refl, sym, _∙_, ap, subst}
 use mathlib.Core.List.{List, [], _∷_, _++_, append-assoc}
-use mathlib.Core.Logic.{_⊎_, inl, inr}
-use Prim.Native.Nat.{ℕ, zero, suc, _+_, _≤_, _<_}
+use mathlib.Core.Logic.{inl, inr}
+use Prim.Native.Nat.{ℕ, suc, _+_, _<_}
 use native.Mathlib.Omega.{arith}
 use native.Mathlib.Nat.{add-assoc}
 use native.Mathlib.Numerals.{add-one}
 use lib.ListN.{length, take}
 use Rattle.std.proofs.shelf.Lists.{length-append}
-use Rattle.text.specs.Misfits.{Begins, First-misfit}
+use Rattle.text.specs.Misfits.{First-misfit}
 
 -- no lawful text starts as this one does
 pub misfit-at-once : (Lawful : List ℕ → Type 0) (some : List ℕ) → Lawful some → (text : List ℕ)

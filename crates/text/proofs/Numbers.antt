@@ -1,23 +1,22 @@
 -- The number that a text starts with, and where it ends.
 use mathlib.Core.Path.{_≡_, refl, sym, _∙_, ap, subst}
-use mathlib.Core.Bool.{Bool, true, false, cond}
+use mathlib.Core.Bool.{true, false}
 use mathlib.Core.List.{List, [], _∷_, _++_}
 use mathlib.Core.Logic.{_⊎_, inl, inr}
-use Prim.Native.Nat.{ℕ, zero, suc, _+_, _-_, _*_, _^_, _≤_, _<_}
+use Prim.Native.Nat.{ℕ, zero, suc, _+_, _-_, _^_, _≤_, _<_}
 use native.Mathlib.Omega.{arith}
 use native.Mathlib.Numerals.{add-one}
-use lib.Dec.{eqb, ltb, lit<, lit≤}
+use lib.Dec.{eqb, ltb}
 use lib.ListN.{length, getD, take, drop}
 use Rattle.std.proofs.shelf.Decimals.{decimal-value, same-from-decimal, length-decimal-le, decimal-some, first-decimal, decimal-digit, decimal-reads}
-use Rattle.std.proofs.shelf.Digits.{}
 use Rattle.std.proofs.shelf.Lists.{getD-append-left, getD-append-right, getD-take, getD-drop, drop-drop, length-drop, take-append-drop, length-take-le, append-cancel-left, take-at}
 use Rattle.std.proofs.shelf.Numerals.{Numerals, numerals-by-value, tells-digits, value-short, digit-at}
-use Rattle.std.proofs.shelf.Tests.{cases-bool, cond-true, cond-false, eqb-true, eqb-false, eq-eqb, ne-eqb, cases-order, cases-eq, cases-lt, ltb-true, ltb-false, both-ways}
+use Rattle.std.proofs.shelf.Tests.{cases-bool, cond-true, cond-false, eqb-true, eqb-false, cases-order, cases-eq, cases-lt, ltb-true, ltb-false, both-ways}
 use Rattle.std.proofs.shelf.Ways.{tells}
 use Rattle.std.specs.Reads.{Digits, value}
 use Rattle.std.specs.Text.{In, asciiDigit, digitValue}
 use Rattle.std.specs.Written.{decimal}
-use Rattle.std.specs.declared.result.Result.the-variants.{Ok, Err}
+use Rattle.std.specs.declared.result.Result.the-variants.{Ok}
 use Rattle.text.specs.Pieces.{run, figures, front-value, number-at, refused-at, Number-there, Number-missing, Tells-number}
 
 digit-within : (c : ℕ) → asciiDigit c ≡ true → digitValue c < 10

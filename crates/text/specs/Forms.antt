@@ -1,17 +1,15 @@
 -- Texts of a form: fixed bytes and numbers, one after the other.
 use mathlib.Core.Path.{_≡_}
-use mathlib.Core.Bool.{cond, false}
+use mathlib.Core.Bool.{cond}
 use mathlib.Core.List.{List, [], _∷_, _++_}
 use Prim.Native.Nat.{ℕ, _+_, _-_, _≤_}
 use lib.Dec.{leb}
-use lib.ListN.{length, getD, drop}
+use lib.ListN.{length, drop}
 use Rattle.std.specs.Results.{Cases}
-use Rattle.std.specs.Text.{asciiDigit}
 use Rattle.std.specs.Written.{decimal}
 use Rattle.std.specs.declared.result.Result.{Result}
 use Rattle.std.specs.declared.result.Result.the-variants.{Ok, Err}
 use Rattle.text.specs.declared.Misfit.{Misfit}
-use Rattle.text.specs.declared.Numeral.{Numeral}
 use Rattle.text.specs.Misfits.{First-misfit}
 use Rattle.text.specs.Pieces.{refused-at, fixed-at, number-at}
 
@@ -70,21 +68,6 @@ abbrev pub Tells-fixed : List ℕ → List ℕ → ℕ → Result ℕ Misfit →
 Tells-fixed wanted bytes at r =
     Cases r (λ end. Fixed-there wanted bytes at end) (λ misfit. Fixed-missing wanted bytes at (misfit .place))
 
--- what follows a number starts with no digit
-abbrev pub Starts-plain : Form → Type 0
-Starts-plain anything = ⊥
-Starts-plain nothing = Unit {0}
-Starts-plain (fixed [] form) = ⊥
-Starts-plain (fixed (b ∷ bytes) form) = asciiDigit b ≡ false
-Starts-plain (number least form) = ⊥
-
--- where a number ends can be told, and its least is 0 or 1
-abbrev pub Clear : Form → Type 0
-Clear anything = Unit {0}
-Clear nothing = Unit {0}
-Clear (fixed bytes form) = Clear form
-Clear (number least form) = (least ≤ 1) × Starts-plain form × Clear form
-
 -- the numbers that were read, and the place after the last byte
 pub record Reading : Type 0 where
   pub numbers : List ℕ
@@ -103,33 +86,3 @@ scan (fixed wanted form) bytes at =
     elim (fixed-at wanted bytes at) [ Ok end ↦ scan form bytes end | Err misfit ↦ Err misfit ]
 scan (number least form) bytes at =
     elim (number-at least bytes at) [ Ok n ↦ before (n .value) (scan form bytes (n .end)) | Err misfit ↦ Err misfit ]
-
--- what a form writes of numbers that it takes is read back as those numbers
-abbrev pub Reads-back : Type 0
-Reads-back =
-    (form : Form) (ns rest bytes : List ℕ) (at : ℕ) → Clear form → Takes form ns rest → at ≤ length bytes
-    → drop at bytes ≡ written form ns ++ rest
-    → scan form bytes at ≡ Ok (record { numbers = ns; end = at + length (written form ns) })
-
--- a text that was read is what the form writes of the numbers, up to the place told
-pub record Was-written (form : Form) (bytes : List ℕ) (at : ℕ) (reading : Reading) : Type 0 where
-  pub takes : Takes form (reading .numbers) (drop (reading .end) bytes)
-  pub writes : drop at bytes ≡ written form (reading .numbers) ++ drop (reading .end) bytes
-  pub ends : reading .end ≡ at + length (written form (reading .numbers))
-  pub within : reading .end ≤ length bytes
-
-abbrev pub Reads-what-was-written : Type 0
-Reads-what-was-written =
-    (form : Form) (bytes : List ℕ) (at : ℕ) (reading : Reading) → Clear form → at ≤ length bytes
-    → scan form bytes at ≡ Ok reading → Was-written form bytes at reading
-
--- a text that was refused was refused at its first misfit
-pub record Refused (form : Form) (bytes : List ℕ) (at : ℕ) (misfit : Misfit) : Type 0 where
-  pub from : at ≤ misfit .place
-  pub first : First-misfit (Of-form form) (drop at bytes) (misfit .place - at)
-
-abbrev pub Refuses-at-first-misfit : Type 0
-Refuses-at-first-misfit =
-    (form : Form) (bytes : List ℕ) (at : ℕ) (misfit : Misfit) → Clear form → at ≤ length bytes
-    → scan form bytes at ≡ Err misfit
-    → Refused form bytes at misfit

@@ -1,10 +1,10 @@
 //! What the readers of job lines and of picture headers share: fixed bytes and numbers in text.
+ghost use Prim.Native.Nat.{_≤_, _<_};
+ghost use Rattle.std.specs.Reads.{Digits, value};
 ghost use Rattle.text.specs.Forms.{Tells-fixed};
 ghost use Rattle.text.specs.Pieces.{figures, fixed-at, number-at, Tells-number};
-ghost use Prim.Native.Nat.{_^_, _≤_, _<_};
 ghost use lib.ListN.{length, take};
 ghost use mathlib.Core.Path.{_≡_};
-ghost use Rattle.std.specs.Reads.{Digits, value};
 
 /// The place of the first byte that does not fit, or the text's length where it ends too early.
 #[derive(Clone, Copy, PartialEq, Debug)]
@@ -20,6 +20,7 @@ pub struct Numeral {
 }
 
 /// The place after the bytes `wanted`, which have to stand at `at`.
+/// Refuses a text in which they do not, at the first byte that is another, or at its end.
 pub fn fixed(bytes: &[u8], at: usize, wanted: &[u8]) -> Result<usize, Misfit>
     ensures answers { λ r. ⌜ r ≡ fixed-at (now (wanted .entry)) (now (bytes .entry)) at ⌝ }
     ensures tells { λ r. ⌜ (at ≤ length (now (bytes .entry)) → Tells-fixed (now (wanted .entry)) (now (bytes .entry)) at r) ⌝ }
@@ -34,7 +35,8 @@ pub fn fixed(bytes: &[u8], at: usize, wanted: &[u8]) -> Result<usize, Misfit>
     Ok(place)
 }
 
-/// The number at `at`, of at most four digits and without a leading zero, which has to be at least `least`.
+/// The number at `at`: as many digits as stand there, at most four, or a 0 alone, so that it has no leading zero.
+/// Refuses a text with no digit at `at`, or with a number below `least`, at that place.
 pub fn number(bytes: &[u8], at: usize, least: u16) -> Result<Numeral, Misfit>
     ensures answers { λ r. ⌜ r ≡ number-at least (now (bytes .entry)) at ⌝ }
     ensures tells { λ r. ⌜ Tells-number least (now (bytes .entry)) at r ⌝ }

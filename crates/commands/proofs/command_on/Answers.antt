@@ -1,3 +1,4 @@
+-- An empty line has no letter.
 use mathlib.Core.Path.{_≡_, sym}
 use mathlib.Core.List.{[]}
 use native.Mathlib.Omega.{arith}

@@ -1,13 +1,14 @@
+-- Each number is read after its blank, and the line ends after the last.
 use Prim.Native.Nat.{ℕ, suc, _+_, _-_, _≤_, _<_}
 use mathlib.Core.Path.{_≡_, _∙_, sym, ap}
 use mathlib.Core.List.{List}
 use native.Mathlib.Omega.{arith}
-use lib.ListN.{length, take, set}
+use lib.ListN.{length, take}
 use Rattle.std.proofs.shelf.Lists.{length-replicate, length-set, take-all, take-more-set}
 use Rattle.std.proofs.shelf.Results.{err-from-errBy}
 use Rattle.std.proofs.shelf.Tests.{cond-true, cond-false, le-leb, lt-leb}
 use Rattle.std.specs.declared.result.Result.{Result}
-use Rattle.std.specs.declared.result.Result.the-variants.{Ok, Err}
+use Rattle.std.specs.declared.result.Result.the-variants.{Ok}
 use Rattle.text.specs.declared.Misfit.{Misfit}
 use Rattle.text.specs.Forms.{Reading, scan}
 use Rattle.commands.specs.Reading.{arguments}
@@ -33,7 +34,7 @@ returns-in-Break-start g c =
     (record {
       answers =
           decided (g .N) (c .loop-i .i) (c .loop-i .numbers) (c .args .line .now) (c .loop-i .at) _ (c .loop-i .inv .2) (c .loop-i-test .taken)
-          (blank-refused _ (c .args .line .now) (c .loop-i .at) _ (sym (c .in-Break-start .ensures tt .answers)))
+          (blank-refused _ (c .args .line .now) (c .loop-i .at) _ (c .in-Break-start .ensures tt .answers))
           ∙ refused-after (take (c .loop-i .i) (c .loop-i .numbers)) _;
       within = c .in-Break-start .ensures tt .tells (c .loop-i .inv .1) .within;
     })
@@ -45,7 +46,7 @@ returns-in-Break-read g c =
     (record {
       answers =
           decided (g .N) (c .loop-i .i) (c .loop-i .numbers) (c .args .line .now) (c .loop-i .at) _ (c .loop-i .inv .2) (c .loop-i-test .taken)
-          (one-more-refused _ (c .args .line .now) (c .loop-i .at) _ _ (sym (c .in-Continue-start .ensures tt .answers)) (sym (c .in-Break-read .ensures tt .answers)))
+          (one-more-refused _ (c .args .line .now) (c .loop-i .at) _ _ (c .in-Continue-start .ensures tt .answers) (c .in-Break-read .ensures tt .answers))
           ∙ refused-after (take (c .loop-i .i) (c .loop-i .numbers)) _;
       within = omega (arith, c .in-Break-read .ensures tt .tells .0, c .in-Continue-start .ensures tt .tells (c .loop-i .inv .1) .within);
     })
@@ -59,7 +60,7 @@ loop-i-again g c =
       c .in-Continue-read .ensures tt .tells .within,
       decided (g .N) i (c .loop-i .numbers) (c .args .line .now) (c .loop-i .at) _ (c .loop-i .inv .2) (c .loop-i-test .taken)
           (one-more-read _ (c .args .line .now) (c .loop-i .at) _ (c .in-Continue-read .read)
-          (sym (c .in-Continue-start .ensures tt .answers)) (sym (c .in-Continue-read .ensures tt .answers)))
+          (c .in-Continue-start .ensures tt .answers) (c .in-Continue-read .ensures tt .answers))
           ∙ (sym (one-more-before (take i (c .loop-i .numbers)) n _)
           ∙ ap (λ (ns : List ℕ). all-before ns (scan (arguments (g .N - (i + 1))) (c .args .line .now) (c .in-Continue-read .read .end)))
           (sym (take-more-set (c .loop-i .numbers) i n room))),

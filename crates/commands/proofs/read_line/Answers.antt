@@ -1,3 +1,4 @@
+-- Columns count from 1, and the laws hold.
 use mathlib.Core.Path.{ap}
 use Rattle.commands.specs.Reading.{by-column}
 use Rattle.commands.proofs.Laws.{reads-back-lines, reads-only-lines, refuses-lines-at-misfit}

@@ -1,8 +1,7 @@
-use mathlib.Core.Path.{_≡_, _∙_, sym, ap}
-use mathlib.Core.List.{List}
+-- The sides of the header are checked, and the laws hold.
+use mathlib.Core.Path.{_∙_, sym, ap}
 use lib.ListN.{length}
 use Rattle.std.specs.declared.result.Result.{Result}
-use Rattle.std.specs.declared.result.Result.the-variants.{Ok, Err}
 use Rattle.text.specs.Forms.{Reading}
 use Rattle.text.specs.declared.Misfit.{Misfit}
 use Rattle.pictures.specs.Reading.{pictured}

@@ -1,3 +1,4 @@
+-- What the loop over the digits keeps, and that it ends.
 use Prim.Native.Nat.{_-_, _+_, _≤_}
 use mathlib.Core.Path.{_≡_}
 use lib.ListN.{length, drop, take}

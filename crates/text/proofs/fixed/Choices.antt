@@ -1,3 +1,4 @@
+-- What the loop over the wanted bytes keeps.
 use mathlib.Core.Path.{_≡_}
 use lib.ListN.{drop}
 use Rattle.text.specs.Pieces.{fixed-at}

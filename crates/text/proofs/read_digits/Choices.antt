@@ -1,3 +1,4 @@
+-- The number of the digits so far.
 use Prim.Native.Nat.{_^_, _<_}
 use mathlib.Core.Path.{_≡_}
 use lib.ListN.{take}

@@ -1,2 +1,4 @@
 pub mod Refusals
 pub mod Slips
+pub mod Splitting
+pub mod Running

@@ -2,3 +2,5 @@ pub mod Faults
 pub mod Answers
 pub mod Visits
 pub mod Commands
+pub mod Lines
+pub mod Runs

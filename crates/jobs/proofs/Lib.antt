@@ -2,3 +2,4 @@ pub mod Refusals
 pub mod Slips
 pub mod Splitting
 pub mod Running
+pub mod Opening

@@ -3,7 +3,9 @@ mod answers;
 mod faults;
 mod lines;
 mod obey;
+mod prepare;
 mod run;
 mod visits;
 
 pub use faults::JobFault;
+pub use run::run_job;

@@ -29,7 +29,7 @@ map-overwritten f start cells memory =
     map-append f (take start memory) _
     ∙ ap (λ front. front ++ map f (cells ++ drop (start + length cells) memory)) (sym (take-map f start memory))
     ∙ ap (λ back. take start (map f memory) ++ back)
-      (map-append f cells _ ∙ ap (λ rest. map f cells ++ rest) (sym (drop-map f (start + length cells) memory) ∙ ap (λ n. drop (start + n) (map f memory)) (sym (length-map cells f))))
+    (map-append f cells _ ∙ ap (λ rest. map f cells ++ rest) (sym (drop-map f (start + length cells) memory) ∙ ap (λ n. drop (start + n) (map f memory)) (sym (length-map cells f))))
 
 -- lists of the right length with lawful sides are accepted
 pub sheets-accepted : (w h from to : ℕ) → 1 ≤ w → w ≤ 1024 → 1 ≤ h → h ≤ 1024 → from ≡ w * h → to ≡ w * h → sheets-answer w h from to ≡ Ok tt

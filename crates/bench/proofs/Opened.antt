@@ -19,8 +19,9 @@ use Rattle.bench.specs.Calls.{opened, opening, sizes-refusal, unless}
 -- no flag of a clear row is set
 clear-flag : (n k : ℕ) → getD (replicate n false) k false ≡ false
 clear-flag n k = elim (cases-lt k n) [
-    inl within ↦ getD-replicate n k false false within
-  | inr past ↦ getD-past (replicate n false) k false (rw length-replicate past) ]
+  | inl within ↦ getD-replicate n k false false within
+  | inr past ↦ getD-past (replicate n false) k false (rw length-replicate past)
+]
 
 and-false : (b : Bool) → (b && false) ≡ false
 and-false true = refl
@@ -30,7 +31,7 @@ and-false false = refl
 pub clear-state : {X : Type 0} (m : Marks) (n : ℕ) (memory : List X) → m .visit ≡ None → m .filled ≡ replicate 12 false → state-of m n memory ≡ opened (m .w) (m .h) n
 clear-state {X} m n memory closed clear =
     let empty : (k : ℕ) → (is-place n k && getD (m .filled) (k - 1) false) ≡ false =
-      λ k. ap (λ bs. is-place n k && getD bs (k - 1) false) clear ∙ ap (λ b. is-place n k && b) (clear-flag 12 (k - 1)) ∙ and-false (is-place n k) in
+    λ k. ap (λ bs. is-place n k && getD bs (k - 1) false) clear ∙ ap (λ b. is-place n k && b) (clear-flag 12 (k - 1)) ∙ and-false (is-place n k) in
     λ i. record {
       outline = record { w = m .w; h = m .h; places = n; visit = closed i; filled = λ k. empty k i };
       content = λ k. cond (empty k i) (cells-of (m .w * m .h) k memory) [];

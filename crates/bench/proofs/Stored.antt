@@ -34,8 +34,9 @@ module _ {X : Type 0} (start : ℕ) (cells memory : List X) (room : start + leng
 -- two places do not overlap
 places-apart : (c j k : ℕ) → 1 ≤ j → 1 ≤ k → j ≢ k → (place-start c j + c ≤ place-start c k) ⊎ (place-start c k + c ≤ place-start c j)
 places-apart c j k first second other = elim (cases-order j k) [
-    inl same ↦ absurd (other same)
-  | inr order ↦ elim order [ inl less ↦ inl (after j k first less) | inr more ↦ inr (after k j second more) ] ]
+  | inl same ↦ absurd (other same)
+  | inr order ↦ elim order [ inl less ↦ inl (after j k first less) | inr more ↦ inr (after k j second more) ]
+]
   where
     after : (i l : ℕ) → 1 ≤ i → i < l → place-start c i + c ≤ place-start c l
     after i l one less = omega (arith, mul-le (i - 1 + 1) c (l - 1) c (omega arith) (omega arith), add-mul (i - 1) 1 c, one-mul c)
@@ -57,47 +58,50 @@ module _ {X : Type 0} (m : Marks) (n k : ℕ) (cells memory : List X) (place : i
 
   filled-other : (j : ℕ) → j ≢ k → (is-place n j && getD (set (m .filled) (k - 1) true) (j - 1) false) ≡ (is-place n j && getD (m .filled) (j - 1) false)
   filled-other j other = elim (cases-bool (is-place n j)) [
-      inl at ↦
+    | inl at ↦
         let one = leb-true 1 j (and-parts (leb 1 j) (leb j n) at .0) in
         let two = low in
         let apart : j - 1 ≢ k - 1 = omega arith in
         ap (λ b. is-place n j && b) (getD-set-other (m .filled) (k - 1) (j - 1) true false apart)
-    | inr off ↦ rw off refl ]
+    | inr off ↦ rw off refl
+  ]
 
   filled-after : (j : ℕ) → (is-place n j && getD (set (m .filled) (k - 1) true) (j - 1) false) ≡ cond (eqb j k) true (is-place n j && getD (m .filled) (j - 1) false)
   filled-after j = elim (cases-eq j k) [
-      inl same ↦
+    | inl same ↦
         let one = low in
         let two = high in
         rw (eq-eqb j k same) (ap (λ i. is-place n i && getD (set (m .filled) (k - 1) true) (i - 1) false) same ∙ rw (place, getD-set-same (m .filled) (k - 1) true false (omega arith)) refl)
-    | inr other ↦ rw (ne-eqb j k other) (filled-other j other) ]
-
+    | inr other ↦ rw (ne-eqb j k other) (filled-other j other)
+  ]
 
   content-after : (j : ℕ) → cond (is-place n j && getD (set (m .filled) (k - 1) true) (j - 1) false) (cells-of (m .w * m .h) j (overwritten (place-start (m .w * m .h) k) cells memory)) []
-    ≡ cond (eqb j k) cells (cond (is-place n j && getD (m .filled) (j - 1) false) (cells-of (m .w * m .h) j memory) [])
+      ≡ cond (eqb j k) cells (cond (is-place n j && getD (m .filled) (j - 1) false) (cells-of (m .w * m .h) j memory) [])
   content-after j =
       let c = m .w * m .h in
       let fits : place-start c k + length cells ≤ length memory = omega (arith, place-within c n k place) in
       elim (cases-eq j k) [
-        inl same ↦
-          rw (filled-after j, eq-eqb j k same)
+        | inl same ↦
+            rw (filled-after j, eq-eqb j k same)
             (ap (λ i. cells-of c i (overwritten (place-start c k) cells memory)) same
             ∙ ap (λ l. take l (drop (place-start c k) (overwritten (place-start c k) cells memory))) (sym long)
             ∙ taken-written (place-start c k) cells memory fits)
-      | inr other ↦
-          rw (filled-other j other, ne-eqb j k other)
+        | inr other ↦
+            rw (filled-other j other, ne-eqb j k other)
             (elim (cases-bool (is-place n j)) [
-                inl at ↦
+              | inl at ↦
                   let one = leb-true 1 j (and-parts (leb 1 j) (leb j n) at .0) in
                   let apart = places-apart c j k one low other in
                   let ends = place-within c n j at in
                   ap (λ xs. cond (is-place n j && getD (m .filled) (j - 1) false) xs [])
-                    (taken-apart (place-start c k) cells memory fits c (place-start c j) (rw long apart) (omega arith))
-              | inr off ↦ rw off refl ]) ]
+                  (taken-apart (place-start c k) cells memory fits c (place-start c j) (rw long apart) (omega arith))
+              | inr off ↦ rw off refl
+            ])
+      ]
 
   -- the state with the place's flag set and its cells written
   pub stored-state : (after : Marks) → after .w ≡ m .w → after .h ≡ m .h → after .visit ≡ m .visit → after .filled ≡ set (m .filled) (k - 1) true →
-    state-of after n (overwritten (place-start (m .w * m .h) k) cells memory) ≡ stored (state-of m n memory) k cells
+      state-of after n (overwritten (place-start (m .w * m .h) k) cells memory) ≡ stored (state-of m n memory) k cells
   stored-state after ew eh ev ef =
       let written = overwritten (place-start (m .w * m .h) k) cells memory in
       (λ i. record {

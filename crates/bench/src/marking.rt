@@ -58,7 +58,12 @@ impl Marks {
     }
 
     // What a call from the sheet in one place to another refuses: 5, 31, 34.
-    pub(crate) fn refuse_transform(&self, places: usize, from: usize, to: usize) -> Result<(), Fault>
+    pub(crate) fn refuse_transform(
+        &self,
+        places: usize,
+        from: usize,
+        to: usize,
+    ) -> Result<(), Fault>
         requires { ⌜ places ≤ 12 ⌝ }
         ensures { λ r. ⌜ r ≡ told (transform-refusal (outline-of (now (self .entry)) places) from to) ⌝ }
     {
@@ -86,7 +91,13 @@ impl Marks {
     {
         let mut filled = self.filled;
         filled[place - 1] = true;
-        Marks { w: self.w, h: self.h, places: self.places, visit: self.visit, filled }
+        Marks {
+            w: self.w,
+            h: self.h,
+            places: self.places,
+            visit: self.visit,
+            filled,
+        }
     }
 
     // The marks with a visit open.
@@ -97,7 +108,13 @@ impl Marks {
         ensures visit { λ r. ⌜ r .visit ≡ Some flat ⌝ }
         ensures filled { λ r. ⌜ r .filled ≡ now (self .entry) .filled ⌝ }
     {
-        Marks { w: self.w, h: self.h, places: self.places, visit: Some(flat), filled: self.filled }
+        Marks {
+            w: self.w,
+            h: self.h,
+            places: self.places,
+            visit: Some(flat),
+            filled: self.filled,
+        }
     }
 
     // The marks with no visit open and every place empty.
@@ -108,7 +125,13 @@ impl Marks {
         ensures visit { λ r. ⌜ r .visit ≡ None ⌝ }
         ensures filled { λ r. ⌜ r .filled ≡ replicate 12 false ⌝ }
     {
-        Marks { w: self.w, h: self.h, places: self.places, visit: None, filled: [false; 12] }
+        Marks {
+            w: self.w,
+            h: self.h,
+            places: self.places,
+            visit: None,
+            filled: [false; 12],
+        }
     }
 
     // Whether rack and slate have the same sides and the same visit, or none.

@@ -30,7 +30,16 @@ pub(crate) fn fill<T: Copy>(cells: &mut [T], value: T)
 }
 
 // Writes what an operation makes of the sheet from one start to the cells from another, by way of a working plane.
-pub(crate) fn operate_place<L: Level>(op: Operation, sheets: &mut [L], planes: &mut [L], w: usize, h: usize, from: usize, to: usize, element: &Element)
+pub(crate) fn operate_place<L: Level>(
+    op: Operation,
+    sheets: &mut [L],
+    planes: &mut [L],
+    w: usize,
+    h: usize,
+    from: usize,
+    to: usize,
+    element: &Element,
+)
     requires sides { ⌜ 1 ≤ w ⌝ ∗ ⌜ w ≤ 1024 ⌝ ∗ ⌜ 1 ≤ h ⌝ ∗ ⌜ h ≤ 1024 ⌝ }
     requires source { ⌜ from + w * h ≤ length (now sheets) ⌝ }
     requires target { ⌜ to + w * h ≤ length (now sheets) ⌝ }
@@ -50,7 +59,7 @@ fn area_of<L: Level>(sheet: &[L]) -> u64
 {
     let mut sum: u64 = 0;
     for level in sheet {
-        sum += u64::from(level.measure());
+        sum += u64::from(level.height());
     }
     sum
 }

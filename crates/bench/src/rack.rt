@@ -26,6 +26,10 @@ impl<'a, L: Level> Rack<'a, 'a, L> {
     {
         let marks = opened_marks(2, w, h, places, memory.len());
         let (sheets, planes) = memory.split_at_mut(marks.places * (marks.w * marks.h));
-        Rack { sheets, planes, marks }
+        Rack {
+            sheets,
+            planes,
+            marks,
+        }
     }
 }

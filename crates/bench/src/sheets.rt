@@ -37,7 +37,13 @@ impl<L: Level> Rack<'_, '_, L> {
     }
 
     // Fills a place with what an operation by an element makes of the sheet in another, or the same.
-    fn transform(&mut self, op: Operation, element: &Element, from: usize, to: usize) -> Result<(), Fault>
+    fn transform(
+        &mut self,
+        op: Operation,
+        element: &Element,
+        from: usize,
+        to: usize,
+    ) -> Result<(), Fault>
         ensures answers { λ r. ⌜ r ≡ told (transform-refusal (rack-outline (now (self .entry))) from to) ⌝ }
         ensures steps { λ r. ⌜ rack-state height (now (self .exit)) ≡ operate-leaves op (rack-state height (now (self .entry))) (offsets (now (element .entry))) from to ⌝ }
         ensures memory { λ r. ⌜ Cases r
@@ -51,7 +57,16 @@ impl<L: Level> Rack<'_, '_, L> {
         let cells = marks.cells();
         let filled = marks.with_filled(to);
         let planes = std::mem::replace(&mut self.planes, &mut []);
-        operate_place(op, self.sheets, planes, marks.w, marks.h, (from - 1) * cells, (to - 1) * cells, element);
+        operate_place(
+            op,
+            self.sheets,
+            planes,
+            marks.w,
+            marks.h,
+            (from - 1) * cells,
+            (to - 1) * cells,
+            element,
+        );
         self.planes = planes;
         self.marks = filled;
         Ok(())

@@ -11,7 +11,13 @@ use crate::fault::Fault;
 use crate::marks::Marks;
 
 // Refuses sizes that make no bench, with `per` working planes.
-pub(crate) fn check_sizes(per: usize, w: usize, h: usize, places: usize, len: usize) -> Result<(), Fault>
+pub(crate) fn check_sizes(
+    per: usize,
+    w: usize,
+    h: usize,
+    places: usize,
+    len: usize,
+) -> Result<(), Fault>
     requires { ⌜ per ≤ 2 ⌝ }
     ensures answers { λ r. ⌜ r ≡ told (sizes-refusal per w h places len) ⌝ }
     ensures sizes { λ r. ⌜ Cases r (λ _. len ≡ (places + per) * (w * h)) (λ _. Unit {0}) ⌝ }
@@ -61,8 +67,20 @@ pub(crate) fn opened_marks(per: usize, w: usize, h: usize, places: usize, len: u
     let visit = None;
     let filled = [false; 12];
     match check_sizes(per, w, h, places, len) {
-        Err(_) => return Marks { w: 0, h: 0, places: 0, visit, filled },
+        Err(_) => return Marks {
+            w: 0,
+            h: 0,
+            places: 0,
+            visit,
+            filled,
+        },
         Ok(()) => {}
     }
-    Marks { w, h, places, visit, filled }
+    Marks {
+        w,
+        h,
+        places,
+        visit,
+        filled,
+    }
 }

@@ -21,6 +21,9 @@ impl<'a> Slate<'a> {
         ensures memory { λ r. ⌜ now (r .tallies) ≡ now (memory .entry) ⌝ }
     {
         let marks = opened_marks(0, w, h, places, memory.len());
-        Slate { tallies: memory, marks }
+        Slate {
+            tallies: memory,
+            marks,
+        }
     }
 }

@@ -18,7 +18,11 @@ use levels::level::Level;
 /// Begins a visit to a flat on a rack and its slate, and hands out the slip for it. No memory changes.
 /// Refuses a flat number that is not 1 to 9,999 (11), a visit open on either (32), and a rack and a slate whose sides
 /// differ (37).
-pub fn begin<L: Level>(flat: u16, rack: &mut Rack<'_, '_, L>, slate: &mut Slate<'_>) -> Result<Slip, Fault>
+pub fn begin<L: Level>(
+    flat: u16,
+    rack: &mut Rack<'_, '_, L>,
+    slate: &mut Slate<'_>,
+) -> Result<Slip, Fault>
     ensures answers { λ r. ⌜ Cases r
         (λ slip. (begin-refusal (rack-outline (now (rack .entry))) (slate-outline (now (slate .entry))) flat ≡ None) × (slip .flat ≡ flat))
         (λ fault. begin-refusal (rack-outline (now (rack .entry))) (slate-outline (now (slate .entry))) flat ≡ Some fault) ⌝ }
@@ -38,7 +42,11 @@ pub fn begin<L: Level>(flat: u16, rack: &mut Rack<'_, '_, L>, slate: &mut Slate<
 /// planes too, and no visit is open. The slip is spent.
 /// Refuses no visit open on the rack (31), a slip of another flat (33), and a rack and a slate whose sides or visits
 /// differ (37); it then hands the slip back.
-pub fn end<L: Level>(mut slip: Slip, rack: &mut Rack<'_, '_, L>, slate: &mut Slate<'_>) -> Result<(), EndRefused>
+pub fn end<L: Level>(
+    mut slip: Slip,
+    rack: &mut Rack<'_, '_, L>,
+    slate: &mut Slate<'_>,
+) -> Result<(), EndRefused>
     ensures answers { λ r. ⌜ Cases r
         (λ _. end-refusal (rack-outline (now (rack .entry))) (slate-outline (now (slate .entry))) (slip .flat) ≡ None)
         (λ e. (end-refusal (rack-outline (now (rack .entry))) (slate-outline (now (slate .entry))) (slip .flat) ≡ Some (e .fault)) × (e .slip ≡ slip)) ⌝ }
@@ -46,11 +54,11 @@ pub fn end<L: Level>(mut slip: Slip, rack: &mut Rack<'_, '_, L>, slate: &mut Sla
     ensures slate_steps { λ r. ⌜ slate-state (now (slate .exit)) ≡ unless (end-refusal (rack-outline (now (rack .entry))) (slate-outline (now (slate .entry))) (slip .flat)) (ended (slate-state (now (slate .entry)))) (slate-state (now (slate .entry))) ⌝ }
     ensures memory { λ r. ⌜ Cases r
         (λ _. (map height (now (now (rack .exit) .sheets)) ≡ replicate (length (now (now (rack .entry) .sheets))) 0)
-            × (map height (now (now (rack .exit) .planes)) ≡ replicate (length (now (now (rack .entry) .planes))) 0)
-            × (now (now (slate .exit) .tallies) ≡ replicate (length (now (now (slate .entry) .tallies))) (pos 0)))
+        × (map height (now (now (rack .exit) .planes)) ≡ replicate (length (now (now (rack .entry) .planes))) 0)
+        × (now (now (slate .exit) .tallies) ≡ replicate (length (now (now (slate .entry) .tallies))) (pos 0)))
         (λ _. (now (now (rack .exit) .sheets) ≡ now (now (rack .entry) .sheets))
-            × (now (now (rack .exit) .planes) ≡ now (now (rack .entry) .planes))
-            × (now (now (slate .exit) .tallies) ≡ now (now (slate .entry) .tallies))) ⌝ }
+        × (now (now (rack .exit) .planes) ≡ now (now (rack .entry) .planes))
+        × (now (now (slate .exit) .tallies) ≡ now (now (slate .entry) .tallies))) ⌝ }
 {
     match rack.marks.refuse_end(&slate.marks, slip.flat) {
         Err(fault) => return Err(EndRefused { slip, fault }),

@@ -25,8 +25,8 @@ made-when-ok P (Err y) ok fact = absurd (false≢true ok)
 
 module _ (offsets : List (ℤ × ℤ)) (picture total : List ℕ) where
   pub run-step : (b after : Benches) (k : ℕ) (line : List ℕ) (lines rest : List (List ℕ)) (answer : Result (Option ℕ) JobFault) (out more : List ℕ) →
-    lines ≡ line ∷ rest → answer ≡ line-answer picture b line → after ≡ line-leaves offsets picture b line → more ≡ out ++ answer-line k answer →
-    out ++ run-lines offsets picture b k lines ≡ total → more ++ run-lines offsets picture after (k + 1) rest ≡ total
+      lines ≡ line ∷ rest → answer ≡ line-answer picture b line → after ≡ line-leaves offsets picture b line → more ≡ out ++ answer-line k answer →
+      out ++ run-lines offsets picture b k lines ≡ total → more ++ run-lines offsets picture after (k + 1) rest ≡ total
   run-step b after k line lines rest answer out more first answers leaves printed whole =
       let later = run-lines offsets picture after (k + 1) rest in
       ap (λ o. o ++ later) printed

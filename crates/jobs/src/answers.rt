@@ -8,7 +8,11 @@ use std::alloc::AllocError;
 use std::alloc::Global;
 
 // The line that is printed for the answer to a job line.
-pub(crate) fn answer_line(heap: Global, line: usize, answer: Result<Option<u64>, JobFault>) -> Result<String, AllocError>
+pub(crate) fn answer_line(
+    heap: Global,
+    line: usize,
+    answer: Result<Option<u64>, JobFault>,
+) -> Result<String, AllocError>
     ensures { λ r. ⌜ made r (λ s. string-bytes s ≡ answer-line line answer) ⌝ }
 {
     match answer {

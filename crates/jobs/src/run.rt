@@ -14,8 +14,6 @@ ghost use Rattle.std.specs.Of.String.{string-bytes};
 ghost use Rattle.std.specs.Results.{Cases};
 ghost use Rattle.std.specs.Vec.{made};
 ghost use Rattle.std.specs.declared.option.Option.the-variants.{None};
-use bench::Rack;
-use bench::Slate;
 use crate::answers::answer_line;
 use crate::faults::JobFault;
 use crate::lines::after_line;
@@ -24,6 +22,8 @@ use crate::obey::obey;
 use crate::prepare::gray_levels;
 use crate::prepare::prepare;
 use crate::visits::end_visit;
+use bench::Rack;
+use bench::Slate;
 use elements::Element;
 use levels::Gray;
 use levels::GrayLevel;
@@ -32,7 +32,12 @@ use std::alloc::AllocError;
 use std::alloc::Global;
 
 // Adds the printed line of an answer.
-fn print_answer(heap: Global, line: usize, answer: Result<Option<u64>, JobFault>, out: &mut String) -> Result<(), AllocError>
+fn print_answer(
+    heap: Global,
+    line: usize,
+    answer: Result<Option<u64>, JobFault>,
+    out: &mut String,
+) -> Result<(), AllocError>
     ensures { λ r. ⌜ made r (λ _. string-bytes (now (out .exit)) ≡ string-bytes (now (out .entry)) ++ answer-line line answer) ⌝ }
 {
     let text = answer_line(heap, line, answer)?;
@@ -40,7 +45,14 @@ fn print_answer(heap: Global, line: usize, answer: Result<Option<u64>, JobFault>
 }
 
 // Obeys the lines of an input one after another; a visit that is open at the end is ended silently.
-fn run_lines(heap: Global, element: &Element, picture: &[Gray], rack: &mut Rack<'_, '_, Gray>, slate: &mut Slate<'_>, input: &[u8]) -> Result<String, AllocError>
+fn run_lines(
+    heap: Global,
+    element: &Element,
+    picture: &[Gray],
+    rack: &mut Rack<'_, '_, Gray>,
+    slate: &mut Slate<'_>,
+    input: &[u8],
+) -> Result<String, AllocError>
     requires { ⌜ Holds None (rack-outline (now rack)) (slate-outline (now slate)) ⌝ }
     ensures { λ r. ⌜ made r (λ out. string-bytes out ≡ run-lines (offsets (now (element .entry))) (map gray-height (now (picture .entry))) (benches (now (rack .entry)) (now (slate .entry))) 1 (lines-of (now (input .entry)))) ⌝ }
 {
@@ -63,7 +75,14 @@ fn run_lines(heap: Global, element: &Element, picture: &[Gray], rack: &mut Rack<
 }
 
 // Runs the lines on a bench of four sheet places and one tally, for a picture of w × h bytes.
-fn run_picture(heap: Global, element: &Element, cells: &[u8], w: usize, h: usize, input: &[u8]) -> Result<String, AllocError>
+fn run_picture(
+    heap: Global,
+    element: &Element,
+    cells: &[u8],
+    w: usize,
+    h: usize,
+    input: &[u8],
+) -> Result<String, AllocError>
     requires sides { ⌜ 1 ≤ w ⌝ ∗ ⌜ w ≤ 96 ⌝ ∗ ⌜ 1 ≤ h ⌝ ∗ ⌜ h ≤ 96 ⌝ }
     ensures { λ r. ⌜ made r (λ out. string-bytes out ≡ run-lines (offsets (now (element .entry))) (now (cells .entry)) (opened-bench w h) 1 (lines-of (now (input .entry)))) ⌝ }
 {
@@ -72,7 +91,14 @@ fn run_picture(heap: Global, element: &Element, cells: &[u8], w: usize, h: usize
     let mut numbers = vec![in heap; 0; w * h]?;
     let mut rack = Rack::open(levels.as_mut_slice(), w, h, 4);
     let mut slate = Slate::open(numbers.as_mut_slice(), w, h, 1);
-    run_lines(heap, element, picture.as_slice(), &mut rack, &mut slate, input)
+    run_lines(
+        heap,
+        element,
+        picture.as_slice(),
+        &mut rack,
+        &mut slate,
+        input,
+    )
 }
 
 /// Runs a job: tells what is printed for the bytes of an element card, of a picture file and of job lines.
@@ -83,7 +109,11 @@ pub fn run_job(heap: Global, card: &[u8], file: &[u8], input: &[u8]) -> Result<S
 {
     match prepare(card, file) {
         Ok(job) => {
-            let Picture { width, height, start } = job.picture;
+            let Picture {
+                width,
+                height,
+                start,
+            } = job.picture;
             run_picture(heap, &job.element, &file[start..], width, height, input)
         }
         Err(fault) => answer_line(heap, 0, Err(fault)),

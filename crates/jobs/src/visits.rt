@@ -7,18 +7,23 @@ ghost use Rattle.jobs.specs.Visits.{Holds};
 ghost use Rattle.levels.specs.Gray.{gray-height};
 ghost use Rattle.std.specs.Options.{valueOr};
 ghost use Rattle.std.specs.declared.option.Option.the-variants.{None};
+use crate::faults::JobFault;
 use bench::Fault;
 use bench::Rack;
 use bench::Slate;
 use bench::Slip;
 use bench::begin;
 use bench::end;
-use crate::faults::JobFault;
 use levels::Gray;
 use levels::GrayLevel;
 
 // Begins a visit, and keeps its slip; with a slip at hand begin is refused.
-pub(crate) fn begin_visit(flat: u16, rack: &mut Rack<'_, '_, Gray>, slate: &mut Slate<'_>, slip: Option<Slip>) -> (Option<Slip>, Result<Option<u64>, JobFault>)
+pub(crate) fn begin_visit(
+    flat: u16,
+    rack: &mut Rack<'_, '_, Gray>,
+    slate: &mut Slate<'_>,
+    slip: Option<Slip>,
+) -> (Option<Slip>, Result<Option<u64>, JobFault>)
     requires { ⌜ Holds slip (rack-outline (now rack)) (slate-outline (now slate)) ⌝ }
     ensures answers { λ r. ⌜ r .1 ≡ answered (begin-refusal (rack-outline (now (rack .entry))) (slate-outline (now (slate .entry))) flat) None ⌝ }
     ensures rack_steps { λ r. ⌜ rack-state gray-height (now (rack .exit)) ≡ unless (begin-refusal (rack-outline (now (rack .entry))) (slate-outline (now (slate .entry))) flat) (visited (rack-state gray-height (now (rack .entry))) flat) (rack-state gray-height (now (rack .entry))) ⌝ }
@@ -35,7 +40,11 @@ pub(crate) fn begin_visit(flat: u16, rack: &mut Rack<'_, '_, Gray>, slate: &mut 
 }
 
 // Ends the visit with the slip at hand; without one there is no visit.
-pub(crate) fn end_visit(rack: &mut Rack<'_, '_, Gray>, slate: &mut Slate<'_>, slip: Option<Slip>) -> Result<Option<u64>, JobFault>
+pub(crate) fn end_visit(
+    rack: &mut Rack<'_, '_, Gray>,
+    slate: &mut Slate<'_>,
+    slip: Option<Slip>,
+) -> Result<Option<u64>, JobFault>
     requires { ⌜ Holds slip (rack-outline (now rack)) (slate-outline (now slate)) ⌝ }
     ensures answers { λ r. ⌜ r ≡ answered (end-refusal (rack-outline (now (rack .entry))) (slate-outline (now (slate .entry))) (valueOr (rack-outline (now (rack .entry)) .visit) 0)) None ⌝ }
     ensures rack_steps { λ r. ⌜ rack-state gray-height (now (rack .exit)) ≡ unless (end-refusal (rack-outline (now (rack .entry))) (slate-outline (now (slate .entry))) (valueOr (rack-outline (now (rack .entry)) .visit) 0)) (ended (rack-state gray-height (now (rack .entry)))) (rack-state gray-height (now (rack .entry))) ⌝ }

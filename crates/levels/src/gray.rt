@@ -32,7 +32,7 @@ pub impl Level for Gray as GrayLevel {
         Gray { value: 255 }
     }
 
-    fn measure(self) -> u32 {
+    fn height(self) -> u32 {
         u32::from(self.value)
     }
 

@@ -55,7 +55,7 @@ pub impl Level for Heat as HeatLevel {
         Heat { height: 65_536 }
     }
 
-    fn measure(self) -> u32 {
+    fn height(self) -> u32 {
         self.height
     }
 

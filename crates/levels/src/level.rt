@@ -29,7 +29,7 @@ pub trait Level: Copy {
         ensures { λ r. ⌜ height r ≡ top ⌝ };
 
     /// The height of this level.
-    fn measure(self) -> u32
+    fn height(self) -> u32
         ensures { λ r. ⌜ r ≡ height self ⌝ };
 
     /// Whether this level is not above the other: yes exactly when its height is no greater.

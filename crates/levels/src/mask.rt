@@ -22,7 +22,7 @@ pub impl Level for Mask as MaskLevel {
         Mask::Yes
     }
 
-    fn measure(self) -> u32 {
+    fn height(self) -> u32 {
         u32::from(self as u8)
     }
 

@@ -27,6 +27,7 @@ own-height op w h f p wide on = at-origin op ∙ rw (add-zero, add-zero, lt-ltb 
   where
     row : p / w < h
     row = div-below p w h wide (rw mul-comm on)
+
     at-origin : (op : Operation) → reached op w h f (p % w) (p / w) (offset-at 24) ≡ height-at w h f (pos (p % w + 0)) (pos (p / w + 0))
     at-origin Erosion = refl
     at-origin Dilation = refl
@@ -41,8 +42,9 @@ absorbs-flag op v a k zero (false ∷ bs) held = absurd (false≢true held)
 absorbs-flag op v a k (suc i) (b ∷ bs) held =
     let place : (k + 1) + i ≡ k + suc i = omega arith in
     elim b as (λ t. extreme op (folded (extreme op) a (map v (flagged k (t ∷ bs)))) (v (offset-at (k + suc i))) ≡ folded (extreme op) a (map v (flagged k (t ∷ bs)))) [
-        true ↦ rw (← place) (absorbs-flag op v (extreme op a (v (offset-at k))) (k + 1) i bs held)
-      | false ↦ rw (← place) (absorbs-flag op v a (k + 1) i bs held) ]
+      | true ↦ rw (← place) (absorbs-flag op v (extreme op a (v (offset-at k))) (k + 1) i bs held)
+      | false ↦ rw (← place) (absorbs-flag op v a (k + 1) i bs held)
+    ]
 
 module _ (w h : ℕ) (f : List ℕ) (flags : List Bool) (wide : 1 ≤ w) (centre : getD flags 24 false ≡ true) where
   swept-erosion : (p : ℕ) → p < w * h → swept Erosion w h f (flagged 0 flags) p ≡ at-place w (erosion-at w h (flagged 0 flags) f) p

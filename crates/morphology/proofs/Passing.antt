@@ -28,8 +28,9 @@ module _ (op : Operation) (v : ℕ → ℕ) where
   passed-set : (was is : List ℕ) (a i z : ℕ) → a ≤ i → i < length is → z ≡ extreme op (getD was i 0) (v i) → Passed op v was is a i → Passed op v was (set is i z) a (i + 1)
   passed-set was is a i z order within value passed = record {
     inside = λ p h k. elim (cases-eq p i) [
-        inl e ↦ rw e (getD-set-same is i z 0 within ∙ value)
-      | inr ne ↦ getD-set-other is i p z 0 ne ∙ passed .inside p h (omega arith) ];
+      | inl e ↦ rw e (getD-set-same is i z 0 within ∙ value)
+      | inr ne ↦ getD-set-other is i p z 0 ne ∙ passed .inside p h (omega arith)
+    ];
     before = λ p h. let ne : p ≢ i = omega arith in getD-set-other is i p z 0 ne ∙ passed .before p h;
     after = λ p h. let ne : p ≢ i = omega arith in getD-set-other is i p z 0 ne ∙ passed .after p (omega arith);
   }
@@ -44,8 +45,9 @@ module _ (op : Operation) (v : ℕ → ℕ) where
   pub passed-join : (was between is : List ℕ) (a b c : ℕ) → a ≤ b → b ≤ c → Passed op v was between a b → Passed op v between is b c → Passed op v was is a c
   passed-join was between is a b c ab bc first second = record {
     inside = λ p h k. elim (cases-lt p b) [
-        inl l ↦ second .before p l ∙ first .inside p h l
-      | inr g ↦ second .inside p g k ∙ ap (λ x. extreme op x (v p)) (first .after p g) ];
+      | inl l ↦ second .before p l ∙ first .inside p h l
+      | inr g ↦ second .inside p g k ∙ ap (λ x. extreme op x (v p)) (first .after p g)
+    ];
     before = λ p h. second .before p (omega arith) ∙ first .before p h;
     after = λ p h. second .after p h ∙ first .after p (omega arith);
   }

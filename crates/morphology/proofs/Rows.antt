@@ -51,7 +51,7 @@ in-row-neighbour w h f c r row base source p begins is low high =
     let m = p - base in
     let place : p ≡ row * w + m = omega arith in
     let reads : in-row w f c source base p ≡ neighbour w h f c r m row =
-      ap (λ s. in-row w f c s base p) is ∙ by-row (on-side h row r) m in
+    ap (λ s. in-row w f c s base p) is ∙ by-row (on-side h row r) m in
     reads ∙ sym (ap (at-place w (neighbour w h f c r)) place ∙ at-place-is w (neighbour w h f c r) row m (omega arith))
   where
     by-row : (b : Bool) (m : ℕ) → in-row w f c (cond b (Some ((row + r - 3) * w)) None) base p ≡ cond (b && on-side w (p - base) c) (getD f ((row + r - 3) * w + (p - base + c - 3)) 0) 0

@@ -27,8 +27,9 @@ flagged-more k (suc i) (b ∷ bs) =
     let place : (k + 1) + i ≡ k + suc i = omega arith in
     let rest = flagged-more (k + 1) i bs ∙ ap (λ n. flagged (k + 1) (take i bs) ++ cond (getD bs i false) (offset-at n ∷ []) []) place in
     elim b as (λ v. flagged k (v ∷ take (suc i) bs) ≡ flagged k (v ∷ take i bs) ++ cond (getD bs i false) (offset-at (k + suc i) ∷ []) []) [
-        true ↦ ap (λ xs. offset-at k ∷ xs) rest
-      | false ↦ rest ]
+      | true ↦ ap (λ xs. offset-at k ∷ xs) rest
+      | false ↦ rest
+    ]
 
 module _ (op : Operation) (w h : ℕ) (f : List ℕ) (p : ℕ) where
   swept-push : (offsets : List (ℤ × ℤ)) (o : ℤ × ℤ) → swept op w h f (offsets ++ o ∷ []) p ≡ extreme op (swept op w h f offsets p) (reached op w h f (p % w) (p / w) o)
@@ -40,7 +41,7 @@ module _ (op : Operation) (w h : ℕ) (f : List ℕ) (p : ℕ) where
   pub sweep-set : (flags : List Bool) (i c r x y : ℕ) → i ≡ r * 7 + c → c < 7 → r < 7 → getD flags i false ≡ true → x ≡ swept op w h f (flagged 0 (take i flags)) p → y ≡ extreme op x (at-place w (neighbour w h f (turned op c) (turned op r)) p) → y ≡ swept op w h f (flagged 0 (take (i + 1) flags)) p
   sweep-set flags i c r x y place column row held was is =
       let more : flagged 0 (take (i + 1) flags) ≡ flagged 0 (take i flags) ++ offset-at i ∷ [] =
-        rw add-one (flagged-more 0 i flags ∙ rw (held, zero-add) refl) in
+      rw add-one (flagged-more 0 i flags ∙ rw (held, zero-add) refl) in
       is ∙ ap (λ z. extreme op z (at-place w (neighbour w h f (turned op c) (turned op r)) p)) was
       ∙ ap (extreme op _) (neighbour-reached op w h f i c r (p % w) (p / w) place column row)
       ∙ sym (ap (λ os. swept op w h f os p) more ∙ swept-push (flagged 0 (take i flags)) (offset-at i))
@@ -48,5 +49,5 @@ module _ (op : Operation) (w h : ℕ) (f : List ℕ) (p : ℕ) where
   pub sweep-clear : (flags : List Bool) (i x : ℕ) → getD flags i false ≡ false → x ≡ swept op w h f (flagged 0 (take i flags)) p → x ≡ swept op w h f (flagged 0 (take (i + 1) flags)) p
   sweep-clear flags i x missing was =
       let same : flagged 0 (take (i + 1) flags) ≡ flagged 0 (take i flags) =
-        rw add-one (flagged-more 0 i flags ∙ rw missing (append-nil _)) in
+      rw add-one (flagged-more 0 i flags ∙ rw missing (append-nil _)) in
       was ∙ sym (ap (λ os. swept op w h f os p) same)

@@ -30,7 +30,14 @@ fn check_sheets(w: usize, h: usize, from: usize, to: usize) -> Result<(), SheetF
 
 /// Writes what an operation by an element makes of the sheet `from` of w × h levels to the list `to`.
 /// Refuses a side that is not 1 to 1,024 (1), then a list that has not w × h levels (4), and then leaves `to` as it was.
-pub fn operate<L: Level>(op: Operation, from: &[L], to: &mut [L], w: usize, h: usize, element: &Element) -> Result<(), SheetFault>
+pub fn operate<L: Level>(
+    op: Operation,
+    from: &[L],
+    to: &mut [L],
+    w: usize,
+    h: usize,
+    element: &Element,
+) -> Result<(), SheetFault>
     ensures answers { λ r. ⌜ r ≡ sheets-answer w h (length (now (from .entry))) (length (now (to .entry))) ⌝ }
     ensures memory { λ r. ⌜ Cases r
         (λ _. map height (now (to .exit)) ≡ operated op w h (offsets (now (element .entry))) (map height (now (from .entry))))
@@ -46,7 +53,13 @@ pub fn operate<L: Level>(op: Operation, from: &[L], to: &mut [L], w: usize, h: u
 /// Writes the erosion of the sheet `from` of w × h levels by an element to the list `to`.
 /// Each cell becomes the least of the levels at the element's offsets from it; outside counts as lowest.
 /// Refuses a side that is not 1 to 1,024 (1), then a list that has not w × h levels (4), and then leaves `to` as it was.
-pub fn erode<L: Level>(from: &[L], to: &mut [L], w: usize, h: usize, element: &Element) -> Result<(), SheetFault>
+pub fn erode<L: Level>(
+    from: &[L],
+    to: &mut [L],
+    w: usize,
+    h: usize,
+    element: &Element,
+) -> Result<(), SheetFault>
     ensures answers { λ r. ⌜ r ≡ sheets-answer w h (length (now (from .entry))) (length (now (to .entry))) ⌝ }
     ensures memory { λ r. ⌜ Cases r
         (λ _. map height (now (to .exit)) ≡ eroded w h (offsets (now (element .entry))) (map height (now (from .entry))))
@@ -58,7 +71,13 @@ pub fn erode<L: Level>(from: &[L], to: &mut [L], w: usize, h: usize, element: &E
 /// Writes the dilation of the sheet `from` of w × h levels by an element to the list `to`.
 /// Each cell becomes the greatest of the levels at the opposites of the element's offsets from it; outside counts as lowest.
 /// Refuses a side that is not 1 to 1,024 (1), then a list that has not w × h levels (4), and then leaves `to` as it was.
-pub fn dilate<L: Level>(from: &[L], to: &mut [L], w: usize, h: usize, element: &Element) -> Result<(), SheetFault>
+pub fn dilate<L: Level>(
+    from: &[L],
+    to: &mut [L],
+    w: usize,
+    h: usize,
+    element: &Element,
+) -> Result<(), SheetFault>
     ensures answers { λ r. ⌜ r ≡ sheets-answer w h (length (now (from .entry))) (length (now (to .entry))) ⌝ }
     ensures memory { λ r. ⌜ Cases r
         (λ _. map height (now (to .exit)) ≡ dilated w h (offsets (now (element .entry))) (map height (now (from .entry))))

@@ -14,7 +14,15 @@ use crate::runs::combine_outside;
 use levels::level::Level;
 
 // One row from `base` on, which reads c − 3 columns on in the row from `source` on, or outside the sheet.
-fn pass_row<L: Level>(op: Operation, from: &[L], to: &mut [L], base: usize, source: Option<usize>, w: usize, c: usize)
+fn pass_row<L: Level>(
+    op: Operation,
+    from: &[L],
+    to: &mut [L],
+    base: usize,
+    source: Option<usize>,
+    w: usize,
+    c: usize,
+)
     requires offset { ⌜ c ≤ 6 ⌝ }
     requires read { ⌜ Cases source (Unit {0}) (λ s. s + w ≤ length (now from)) ⌝ }
     requires row { ⌜ base + w ≤ length (now to) ⌝ }
@@ -47,7 +55,15 @@ fn source_row(row: usize, r: usize, base: usize, w: usize, h: usize) -> Option<u
 }
 
 // Every cell keeps the extreme of itself and of its neighbour c − 3 columns and r − 3 rows on.
-pub(crate) fn pass<L: Level>(op: Operation, from: &[L], to: &mut [L], w: usize, h: usize, c: usize, r: usize)
+pub(crate) fn pass<L: Level>(
+    op: Operation,
+    from: &[L],
+    to: &mut [L],
+    w: usize,
+    h: usize,
+    c: usize,
+    r: usize,
+)
     requires offset { ⌜ c ≤ 6 ⌝ ∗ ⌜ r ≤ 6 ⌝ }
     requires sides { ⌜ 1 ≤ w ⌝ ∗ ⌜ w ≤ 1024 ⌝ ∗ ⌜ h ≤ 1024 ⌝ }
     requires source { ⌜ length (now from) ≡ w * h ⌝ }

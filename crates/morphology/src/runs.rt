@@ -8,7 +8,14 @@ use crate::operation::Operation;
 use levels::level::Level;
 
 // Each of `len` cells from `t` on keeps the extreme of itself and of the cell as far past `s` in `from`.
-pub(crate) fn combine<L: Level>(op: Operation, from: &[L], to: &mut [L], s: usize, t: usize, len: usize)
+pub(crate) fn combine<L: Level>(
+    op: Operation,
+    from: &[L],
+    to: &mut [L],
+    s: usize,
+    t: usize,
+    len: usize,
+)
     requires source { ⌜ s + len ≤ length (now from) ⌝ }
     requires target { ⌜ t + len ≤ length (now to) ⌝ }
     ensures { λ _. ⌜ Passed op (in-run (map height (now (from .entry))) s t) (map height (now (to .entry))) (map height (now (to .exit))) t (t + len) ⌝ }

@@ -11,7 +11,14 @@ use elements::Element;
 use levels::level::Level;
 
 // Every cell of `to`, a copy of `from`, becomes the extreme of itself and of what the operation reads from it.
-pub(crate) fn sweep<L: Level>(op: Operation, from: &[L], to: &mut [L], w: usize, h: usize, element: &Element)
+pub(crate) fn sweep<L: Level>(
+    op: Operation,
+    from: &[L],
+    to: &mut [L],
+    w: usize,
+    h: usize,
+    element: &Element,
+)
     requires sides { ⌜ 1 ≤ w ⌝ ∗ ⌜ w ≤ 1024 ⌝ ∗ ⌜ h ≤ 1024 ⌝ }
     requires source { ⌜ length (now from) ≡ w * h ⌝ }
     requires target { ⌜ now to ≡ now from ⌝ }

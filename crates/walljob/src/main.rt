@@ -33,6 +33,11 @@ fn main(rt: LibcRuntime) -> io::Result<()> {
     let card = read_file(&rt, "element.card")?;
     let file = read_file(&rt, "sheet.pgm")?;
     let input = read_some(rt.alloc(), rt.stdin())?;
-    let printed = run_job(rt.alloc(), card.as_slice(), file.as_slice(), input.as_slice())?;
+    let printed = run_job(
+        rt.alloc(),
+        card.as_slice(),
+        file.as_slice(),
+        input.as_slice(),
+    )?;
     rt.print(printed)
 }

@@ -31,15 +31,16 @@ returns g c =
     record {
       answers = refused-by-none _ accepted;
       rack-steps =
-        cleared-state (rack .marks) (c .cleared-rack .result) _ _ _ (racked .w) (racked .h) (racked .visit) (racked .filled)
+          cleared-state (rack .marks) (c .cleared-rack .result) _ _ _ (racked .w) (racked .h) (racked .visit) (racked .filled)
           (same-places (rack .marks) (c .cleared-rack .result) 2 _ _ _ _ (racked .w) (racked .h) (racked .places) sheets planes)
-        ∙ accepted-leaves _ _ _ accepted;
+          ∙ accepted-leaves _ _ _ accepted;
       slate-steps =
-        cleared-state (slate .marks) (c .cleared-slate .result) _ _ _ (slated .w) (slated .h) (slated .visit) (slated .filled)
+          cleared-state (slate .marks) (c .cleared-slate .result) _ _ _ (slated .w) (slated .h) (slated .visit) (slated .filled)
           (same-places (slate .marks) (c .cleared-slate .result) 0 _ _ 0 0 (slated .w) (slated .h) (slated .places) tallies refl)
-        ∙ accepted-leaves _ _ _ accepted;
+          ∙ accepted-leaves _ _ _ accepted;
       memory = (
         ap (map height) (c .fill .ensures) ∙ map-replicate height _ _ ∙ ap (replicate (length (rack .sheets .now))) (c .lowest .ensures),
         ap (map height) (c .fill-2 .ensures) ∙ map-replicate height _ _ ∙ ap (replicate (length (rack .planes .now))) (c .lowest-2 .ensures),
-        c .fill-3 .ensures);
+        c .fill-3 .ensures,
+      );
     }

@@ -22,10 +22,10 @@ returns-in-Load c =
     let steps = done .steps ∙ ap (λ k. load-leaves (rack-state gray-height rack) k picture) (c .from .ensures) in
     record {
       answers =
-        done .answers
-        ∙ ap (λ k. answered (load-refusal (rack-outline rack) k (length (c .args .picture .now))) None) (c .from .ensures)
-        ∙ ap (λ n. answered (load-refusal (rack-outline rack) (c .in-Load .place) n) None) (sym (length-map (c .args .picture .now) gray-height))
-        ∙ ap (command-answer picture bench) (sym (c .in-Load .is));
+          done .answers
+          ∙ ap (λ k. answered (load-refusal (rack-outline rack) k (length (c .args .picture .now))) None) (c .from .ensures)
+          ∙ ap (λ n. answered (load-refusal (rack-outline rack) (c .in-Load .place) n) None) (sym (length-map (c .args .picture .now) gray-height))
+          ∙ ap (command-answer picture bench) (sym (c .in-Load .is));
       steps = (λ i. record { rack = steps i; slate = slate }) ∙ ap (command-leaves (offsets (c .args .element .now)) picture bench) (sym (c .in-Load .is));
       holds = kept-holds _ _ _ _ (done .keeps) (c .pre);
     }

@@ -11,15 +11,17 @@ use Rattle.jobs.proofs.prepare.gray_levels.Needs as need
 pub loop-byte-again : need.loop-byte-again
 loop-byte-again c =
     let bytes = c .args .bytes .now in
-    let i = c .loop-byte .byte-index in
-    (ap (map gray-height) (c .in-Continue-push .ensures tt .items)
-      ∙ map-push gray-height _ (c .new .result)
-      ∙ ap (λ xs. xs ++ gray-height (c .new .result) ∷ []) (c .loop-byte .inv .0)
-      ∙ ap (λ v. take i bytes ++ v ∷ []) (c .new .ensures)
-      ∙ sym (take-more bytes i 0 (c .loop-byte-test .taken)),
-      search needs)
+    let i = c .loop-byte .byte-index in (
+      ap (map gray-height) (c .in-Continue-push .ensures tt .items)
+          ∙ map-push gray-height _ (c .new .result)
+          ∙ ap (λ xs. xs ++ gray-height (c .new .result) ∷ []) (c .loop-byte .inv .0)
+          ∙ ap (λ v. take i bytes ++ v ∷ []) (c .new .ensures)
+          ∙ sym (take-more bytes i 0 (c .loop-byte-test .taken)),
+      search needs,
+    )
 
 pub returns : need.returns
-returns c =
-    (c .loop-byte .inv .0 ∙ take-all (c .loop-byte .byte-index) (c .args .bytes .now) (c .loop-byte-test .left),
-      c .loop-byte .inv .1 ∙ omega arith)
+returns c = (
+  c .loop-byte .inv .0 ∙ take-all (c .loop-byte .byte-index) (c .args .bytes .now) (c .loop-byte-test .left),
+  c .loop-byte .inv .1 ∙ omega arith,
+)

@@ -13,6 +13,6 @@ returns-in-Ok c =
     let file = c .args .file .now in
     let input = c .args .input .now in
     made-weaker (c .run-picture .result) _ (λ out. string-bytes out ≡ printed (c .args .card .now) file input)
-      (λ out is. is ∙ ap (λ cells. run-lines (offsets (job .element)) cells (opened-bench (job .picture .width) (job .picture .height)) 1 (lines-of input)) (take-rest file (job .picture .start))
-        ∙ ap (λ p. printed-for p file input) (sym (c .in-Ok .ensures tt .answers)))
-      (c .run-picture .ensures)
+    (λ out is. is ∙ ap (λ cells. run-lines (offsets (job .element)) cells (opened-bench (job .picture .width) (job .picture .height)) 1 (lines-of input)) (take-rest file (job .picture .start))
+    ∙ ap (λ p. printed-for p file input) (sym (c .in-Ok .ensures tt .answers)))
+    (c .run-picture .ensures)

@@ -19,8 +19,8 @@ abbrev pub Inv-loop-at : given.InvT-loop-at
 Inv-loop-at l =
     (l .number ≤ l .at) × (l .at ≤ length (l .input)) × Holds (l .slip) (rack-outline (l .rack)) (slate-outline (l .slate))
     × (isOk (l .room) ≡ true →
-      string-bytes (l .out) ++ run-lines (offsets (l .element)) (map gray-height (l .picture)) (benches (l .rack) (l .slate)) (l .number + 1) (lines-of (drop (l .at) (l .input)))
-      ≡ run-lines (offsets (l .element)) (map gray-height (l .picture)) (benches (l .entry .rack) (l .entry .slate)) 1 (lines-of (l .input)))
+    string-bytes (l .out) ++ run-lines (offsets (l .element)) (map gray-height (l .picture)) (benches (l .rack) (l .slate)) (l .number + 1) (lines-of (drop (l .at) (l .input)))
+    ≡ run-lines (offsets (l .element)) (map gray-height (l .picture)) (benches (l .entry .rack) (l .entry .slate)) 1 (lines-of (l .input)))
 
 abbrev pub μ-loop-at : given.MeasureT-loop-at
 μ-loop-at l = length (l .input) - l .at

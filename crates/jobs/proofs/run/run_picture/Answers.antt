@@ -27,6 +27,6 @@ returns c =
     let picture = ap (map gray-height) (c .as-slice .ensures .value) ∙ c .in-Continue-picture .ensures tt .0 in
     let lines = lines-of (c .args .input .now) in
     made-weaker (c .run-lines .result) _ (λ out. string-bytes out ≡ run-lines (offsets (c .args .element .now)) (c .args .cells .now) (opened-bench (c .args .w) (c .args .h)) 1 lines)
-      (λ out is. is ∙ ap (λ f. run-lines (offsets (c .args .element .now)) f (benches (c .open-rack .result) (c .open-slate .result)) 1 lines) picture
-        ∙ ap (λ b. run-lines (offsets (c .args .element .now)) (c .args .cells .now) b 1 lines) bench)
-      (c .run-lines .ensures)
+    (λ out is. is ∙ ap (λ f. run-lines (offsets (c .args .element .now)) f (benches (c .open-rack .result) (c .open-slate .result)) 1 lines) picture
+    ∙ ap (λ b. run-lines (offsets (c .args .element .now)) (c .args .cells .now) b 1 lines) bench)
+    (c .run-lines .ensures)

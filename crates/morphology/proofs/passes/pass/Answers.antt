@@ -24,6 +24,7 @@ loop-row-again g c =
     let base = c .loop-row .base in
     let reads = in-row-neighbour (c .args .w) (c .args .h) f (c .args .c) (c .args .r) (c .loop-row .row) base (c .source-row-source .result) in
     let row = passed-same (c .args .op) (in-row (c .args .w) f (c .args .c) (c .source-row-source .result) base) (at-place (c .args .w) (neighbour (c .args .w) (c .args .h) f (c .args .c) (c .args .r))) _ _ base (base + c .args .w)
-      (λ p low high. reads p (c .loop-row .inv .0) (c .source-row-source .ensures) low high) (c .pass-row .ensures) in
-    (ap (λ n. n + c .args .w) (c .loop-row .inv .0) ∙ next-row (c .loop-row .row) (c .args .w),
-      passed-join _ _ _ _ _ 0 base (base + c .args .w) (omega arith) (omega arith) (c .loop-row .inv .1) row)
+    (λ p low high. reads p (c .loop-row .inv .0) (c .source-row-source .ensures) low high) (c .pass-row .ensures) in (
+      ap (λ n. n + c .args .w) (c .loop-row .inv .0) ∙ next-row (c .loop-row .row) (c .args .w),
+      passed-join _ _ _ _ _ 0 base (base + c .args .w) (omega arith) (omega arith) (c .loop-row .inv .1) row,
+    )

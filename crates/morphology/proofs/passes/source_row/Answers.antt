@@ -12,5 +12,5 @@ sub-result c = omega (arith, row-on (c .args .row) (c .args .r) (c .args .w) (c 
 pub returns : need.returns
 returns c =
     let place : c .args .base + c .args .r * c .args .w - 3 * c .args .w ≡ (c .args .row + c .args .r - 3) * c .args .w =
-      omega (arith, row-on (c .args .row) (c .args .r) (c .args .w) (c .if-row-r-lt3 .left)) in
+    omega (arith, row-on (c .args .row) (c .args .r) (c .args .w) (c .if-row-r-lt3 .left)) in
     ap Some place ∙ grind (arith, tells)

@@ -13,4 +13,4 @@ loop-k-again g c =
     let height = g .L·Level .height in
     let read = in-run-read height (c .args .from .now) (c .args .s) (c .args .t) (c .loop-k .k) (c .index-from-s .result) (omega arith) (c .index-from-s .is) in
     rw (← add-assoc) (passed-more _ _ height _ _ _ _ _ _ (omega arith) (omega arith) (c .index-to-t .is)
-      (c .kept .ensures ∙ ap (extreme (c .args .op) _) read) (c .loop-k .inv))
+    (c .kept .ensures ∙ ap (extreme (c .args .op) _) read) (c .loop-k .inv))

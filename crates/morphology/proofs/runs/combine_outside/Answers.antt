@@ -11,4 +11,4 @@ loop-k-holds g c = rw add-zero (passed-none _ _ _ _)
 pub loop-k-again : need.loop-k-again
 loop-k-again g c =
     rw (← add-assoc) (passed-more _ _ (g .L·Level .height) _ _ _ _ _ _ (omega arith) (omega arith) (c .index-to-t .is)
-      (c .kept .ensures ∙ ap (extreme (c .args .op) _) (c .lowest .ensures)) (c .loop-k .inv))
+    (c .kept .ensures ∙ ap (extreme (c .args .op) _) (c .lowest .ensures)) (c .loop-k .inv))

@@ -48,9 +48,9 @@ returns g c =
     record {
       answers = passed;
       steps =
-        sheet-stored height (rack .marks) (c .with-filled-self .result) (c .args .place) (length (rack .planes .now)) (rack .sheets .now) (c .store .last .memory) (map height (c .args .picture .now))
+          sheet-stored height (rack .marks) (c .with-filled-self .result) (c .args .place) (length (rack .planes .now)) (rack .sheets .now) (c .store .last .memory) (map height (c .args .picture .now))
           (accepted .1) (length-map _ _ ∙ accepted .0) (ap (map height) written ∙ map-overwritten height (place-start (rack .marks .w * rack .marks .h) (c .args .place)) (c .args .picture .now) (rack .sheets .now)) (marks .w) (marks .h) (marks .places) (marks .visit) (marks .filled)
-        ∙ accepted-leaves _ _ _ (passed ∙ heights);
+          ∙ accepted-leaves _ _ _ (passed ∙ heights);
       memory = written;
       planes = refl;
     }

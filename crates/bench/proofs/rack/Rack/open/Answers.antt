@@ -11,7 +11,7 @@ returns g c =
     let cut = c .split-at-mut-sheets .ensures in
     record {
       state = opening-state (c .opened-marks-marks .result) 2 (c .args .w) (c .args .h) (c .args .places) _ _ _
-        (marks .w) (marks .h) (marks .places) (marks .visit) (marks .filled)
-        (marks .held _ _ (cut .front-len) (ap (λ n. length (c .split-at-mut-sheets .result .1 .now) + n) (cut .front-len) ∙ cut .back-len));
+          (marks .w) (marks .h) (marks .places) (marks .visit) (marks .filled)
+          (marks .held _ _ (cut .front-len) (ap (λ n. length (c .split-at-mut-sheets .result .1 .now) + n) (cut .front-len) ∙ cut .back-len));
       memory = search needs;
     }

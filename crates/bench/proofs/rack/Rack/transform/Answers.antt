@@ -62,11 +62,11 @@ returns g c =
     record {
       answers = passed;
       steps =
-        ap (λ n. state-of (c .with-filled-filled .result) (places-in (c .with-filled-filled .result) 2 (length (c .operate-place .last .sheets)) n) (map height (c .operate-place .last .sheets))) planes
-        ∙ sheet-stored height marks (c .with-filled-filled .result) (c .args .to) (length (rack .planes .now)) (rack .sheets .now) (c .operate-place .last .sheets) made
+          ap (λ n. state-of (c .with-filled-filled .result) (places-in (c .with-filled-filled .result) 2 (length (c .operate-place .last .sheets)) n) (map height (c .operate-place .last .sheets))) planes
+          ∙ sheet-stored height marks (c .with-filled-filled .result) (c .args .to) (length (rack .planes .now)) (rack .sheets .now) (c .operate-place .last .sheets) made
           (accepted .1) (length-operated (c .args .op) (marks .w) (marks .h) _ _) written (filled .w) (filled .h) (filled .places) (filled .visit) (filled .filled)
-        ∙ ap (λ f. stored (rack-state height rack) (c .args .to) (operated (c .args .op) (marks .w) (marks .h) (offsets (c .args .element .now)) f)) source
-        ∙ accepted-leaves _ _ _ passed;
+          ∙ ap (λ f. stored (rack-state height rack) (c .args .to) (operated (c .args .op) (marks .w) (marks .h) (offsets (c .args .element .now)) f)) source
+          ∙ accepted-leaves _ _ _ passed;
       memory = written;
       planes = tt;
     }

@@ -8,6 +8,6 @@ returns c =
     let marks = c .opened-marks-marks .ensures in
     record {
       state = opening-state (c .opened-marks-marks .result) 0 (c .args .w) (c .args .h) (c .args .places) _ _ _
-        (marks .w) (marks .h) (marks .places) (marks .visit) (marks .filled) (marks .whole refl);
+          (marks .w) (marks .h) (marks .places) (marks .visit) (marks .filled) (marks .whole refl);
       memory = search needs;
     }

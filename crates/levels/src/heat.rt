@@ -48,7 +48,7 @@ pub impl Level for Heat as HeatLevel {
     ghost height = { λ h. h .height };
 
     fn lowest() -> Heat {
-        Heat { height: 0 }
+        Heat::blank()
     }
 
     fn highest() -> Heat {

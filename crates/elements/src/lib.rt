@@ -2,8 +2,6 @@
 mod cards;
 mod element;
 mod offset;
-#[cfg(test)]
-mod tests;
 
 pub use cards::CardFault;
 pub use cards::read_card;

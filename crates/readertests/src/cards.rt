@@ -1,5 +1,5 @@
 // Cards and what they come to.
-use crate::read_card;
+use elements::read_card;
 use std::test::*;
 
 // The number and the byte of a card's fault, or 0, 0 and the places of its offsets as bits.

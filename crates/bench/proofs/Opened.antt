@@ -11,10 +11,12 @@ use Rattle.std.proofs.shelf.Lists.{getD-replicate, getD-past, length-replicate}
 use Rattle.std.proofs.shelf.Tests.{cases-lt}
 use Rattle.std.specs.declared.option.Option.{Option}
 use Rattle.std.specs.declared.option.Option.the-variants.{Some, None}
-use Rattle.bench.specs.declared.fault.Fault.{Fault}
+use Rattle.limits.specs.declared.fault.Fault.{Fault}
 use Rattle.bench.specs.declared.marks.Marks.{Marks}
 use Rattle.bench.specs.Model.{is-place, state-of, cells-of, places-in}
-use Rattle.bench.specs.Calls.{opened, opening, sizes-refusal, unless}
+use Rattle.bench.specs.Calls.{opened, opening}
+use Rattle.limits.specs.Faults.{unless}
+use Rattle.limits.specs.Sizes.{sizes-refusal}
 
 -- no flag of a clear row is set
 clear-flag : (n k : ℕ) → getD (replicate n false) k false ≡ false

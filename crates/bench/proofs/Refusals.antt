@@ -10,10 +10,11 @@ use Rattle.std.specs.declared.option.Option.{Option}
 use Rattle.std.specs.declared.option.Option.the-variants.{Some, None}
 use Rattle.std.specs.declared.result.Result.{Result}
 use Rattle.std.specs.declared.result.Result.the-variants.{Ok, Err}
-use Rattle.bench.specs.declared.fault.Fault.{Fault}
-use Rattle.bench.specs.Faults.{first}
+use Rattle.limits.specs.declared.fault.Fault.{Fault}
+use Rattle.limits.specs.Faults.{first}
 use Rattle.bench.specs.Model.{Outline, is-place}
-use Rattle.bench.specs.Calls.{tells, told, unless, load-refusal, transform-refusal}
+use Rattle.bench.specs.Calls.{load-refusal, transform-refusal}
+use Rattle.limits.specs.Faults.{tells, told, unless}
 
 pub refused-leaves : {S : Type 0} (o : Option Fault) (e : Fault) (new old : S) → Err e ≡ told o → old ≡ unless o new old
 refused-leaves None e new old h = absurd (let z : _≡_ {A = ℕ} 0 1 = cc in omega arith)

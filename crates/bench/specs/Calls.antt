@@ -10,37 +10,15 @@ use Rattle.std.specs.declared.option.Option.{Option}
 use Rattle.std.specs.declared.option.Option.the-variants.{Some, None}
 use Rattle.std.specs.declared.result.Result.{Result}
 use Rattle.std.specs.declared.result.Result.the-variants.{Ok, Err}
-use Rattle.morphology.specs.Sheets.{area, lawful-side}
+use Rattle.morphology.specs.Sheets.{area}
 use Rattle.morphology.specs.Passes.{operated}
 use Rattle.morphology.specs.declared.operation.Operation.{Operation}
-use Rattle.bench.specs.declared.fault.Fault.{Fault}
-use Rattle.bench.specs.declared.fault.Fault.the-variants.{Side, Places, Memory, Picture, SheetPlace, Flat, NoVisit, VisitOpen, OtherFlat, EmptySheet, Unequal}
+use Rattle.limits.specs.declared.fault.Fault.{Fault}
+use Rattle.limits.specs.declared.fault.Fault.the-variants.{Length, SheetPlace, Flat, NoVisit, VisitOpen, OtherFlat, EmptySheet, Unequal}
 use Rattle.bench.specs.declared.marks.Marks.{Marks}
-use Rattle.bench.specs.Faults.{first}
+use Rattle.limits.specs.Faults.{first, tells, unless}
+use Rattle.limits.specs.Sizes.{sizes-refusal}
 use Rattle.bench.specs.Model.{Outline, State, is-place, cells-of, overwritten, place-start}
-
--- the answer of a call that tells nothing but its refusal
-abbrev pub told : Option Fault → Result (Unit {0}) Fault
-told None = Ok tt
-told (Some fault) = Err fault
-
--- the answer of a call that tells something
-abbrev pub tells : {X : Type 0} → Option Fault → X → Result X Fault
-tells None x = Ok x
-tells (Some fault) x = Err fault
-
--- what a call leaves: the state as it was where it is refused, and else the new one
-abbrev pub unless : {S : Type 0} → Option Fault → S → S → S
-unless None new old = new
-unless (Some fault) new old = old
-
--- Sizes: sides 1 to 1,024, then 1 to 12 places, then memory of exactly (places + per) × w × h cells, where `per` counts
--- the working planes, two for a rack and none for a slate.
-abbrev pub sizes-refusal : ℕ → ℕ → ℕ → ℕ → ℕ → Option Fault
-sizes-refusal per w h places len =
-    first (not (lawful-side w && lawful-side h)) Side
-    (first (not (leb 1 places && leb places 12)) Places
-    (first (not (eqb len ((places + per) * (w * h)))) Memory None))
 
 -- every place empty, and no visit open
 abbrev pub opened : {X : Type 0} → ℕ → ℕ → ℕ → State X
@@ -69,7 +47,7 @@ stored s k cells = record {
 -- load: the picture's length, then the place, then the visit
 abbrev pub load-refusal : Outline → ℕ → ℕ → Option Fault
 load-refusal o k len =
-    first (not (eqb len (o .w * o .h))) Picture
+    first (not (eqb len (o .w * o .h))) Length
     (first (not (is-place (o .places) k)) SheetPlace
     (first (not (isSome (o .visit))) NoVisit None))
 

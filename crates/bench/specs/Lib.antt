@@ -1,4 +1,3 @@
 pub mod Flags
-pub mod Faults
 pub mod Model
 pub mod Calls

@@ -3,11 +3,12 @@ ghost use mathlib.Core.Bool.{true, false};
 ghost use mathlib.Core.Path.{_≡_};
 ghost use Prim.Native.Nat.{_*_, _-_, _≤_};
 ghost use lib.ListN.{replicate, set};
-ghost use Rattle.bench.specs.Calls.{begin-refusal, end-refusal, equal-benches, load-refusal, told, transform-refusal};
+ghost use Rattle.bench.specs.Calls.{begin-refusal, end-refusal, equal-benches, load-refusal, transform-refusal};
+ghost use Rattle.limits.specs.Faults.{told};
 ghost use Rattle.bench.specs.Model.{outline-of, places-in};
 ghost use Rattle.std.specs.Options.{isSome};
 ghost use Rattle.std.specs.declared.option.Option.the-variants.{None, Some};
-use crate::fault::Fault;
+use limits::Fault;
 use crate::marks::Marks;
 
 impl Marks {
@@ -46,7 +47,7 @@ impl Marks {
         ensures { λ r. ⌜ r ≡ told (load-refusal (outline-of (now (self .entry)) places) place len) ⌝ }
     {
         if len != self.cells() {
-            return Err(Fault::Picture);
+            return Err(Fault::Length);
         }
         if place < 1 || place > places {
             return Err(Fault::SheetPlace);

@@ -5,7 +5,7 @@ ghost use lib.ListN.{length};
 ghost use Rattle.bench.specs.Calls.{opening};
 ghost use Rattle.bench.specs.Model.{rack-state};
 use crate::marks::Marks;
-use crate::sizes::opened_marks;
+use crate::opening::opened_marks;
 use levels::level::Level;
 
 /// A rack holds its sheets in memory of their level kind that is lent to it: w × h levels for each place, and behind

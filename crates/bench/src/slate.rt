@@ -4,7 +4,7 @@ ghost use lib.ListN.{length};
 ghost use Rattle.bench.specs.Calls.{opening};
 ghost use Rattle.bench.specs.Model.{slate-state};
 use crate::marks::Marks;
-use crate::sizes::opened_marks;
+use crate::opening::opened_marks;
 
 /// A slate holds its tallies, signed numbers for each cell, in memory that is lent to it: w × h numbers for each place.
 #[derive(Drop)]

@@ -1,6 +1,6 @@
 // The slip that begin hands out and that end takes back.
 ghost use mathlib.Core.Path.{_≡_};
-use crate::fault::Fault;
+use limits::Fault;
 
 /// A slip bears the flat number of the visit that it was handed out for. No code can make or copy one, and it may be
 /// let go only when end has spent it, which leaves 0 on it, no flat's number.

@@ -5,8 +5,8 @@ use native.Mathlib.Omega.{arith}
 use Rattle.std.specs.declared.option.Option.{Option}
 use Rattle.std.specs.declared.option.Option.the-variants.{Some, None}
 use Rattle.std.specs.declared.result.Result.the-variants.{Ok, Err}
-use Rattle.bench.specs.declared.fault.Fault.{Fault}
-use Rattle.bench.specs.Calls.{tells, told}
+use Rattle.limits.specs.declared.fault.Fault.{Fault}
+use Rattle.limits.specs.Faults.{tells, told}
 use Rattle.jobs.specs.declared.faults.JobFault.the-variants.{Bench}
 use Rattle.jobs.specs.Commands.{answered}
 

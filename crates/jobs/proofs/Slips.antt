@@ -6,10 +6,11 @@ use native.Mathlib.Omega.{arith}
 use Rattle.std.proofs.shelf.Tests.{eq-eqb}
 use Rattle.std.specs.declared.option.Option.{Option}
 use Rattle.std.specs.declared.option.Option.the-variants.{Some, None}
-use Rattle.bench.specs.declared.fault.Fault.{Fault}
+use Rattle.limits.specs.declared.fault.Fault.{Fault}
 use Rattle.bench.specs.declared.slip.Slip.{Slip}
 use Rattle.bench.specs.Model.{Outline, State}
-use Rattle.bench.specs.Calls.{end-refusal, stored, unless}
+use Rattle.bench.specs.Calls.{end-refusal, stored}
+use Rattle.limits.specs.Faults.{unless}
 use Rattle.jobs.specs.Visits.{Holds, Keeps}
 
 -- end is not refused with the slip of the visit that is open on both

@@ -16,11 +16,12 @@ use Rattle.commands.specs.declared.LineFault.{LineFault}
 use Rattle.commands.specs.Reading.{read}
 use Rattle.levels.specs.declared.gray.Gray.{Gray}
 use Rattle.levels.specs.Gray.{gray-height}
-use Rattle.bench.specs.declared.fault.Fault.{Fault}
+use Rattle.limits.specs.declared.fault.Fault.{Fault}
 use Rattle.bench.specs.declared.rack.Rack.{Rack}
 use Rattle.bench.specs.declared.slate.Slate.{Slate}
 use Rattle.bench.specs.Model.{State, rack-state, slate-state}
-use Rattle.bench.specs.Calls.{begin-refusal, end-refusal, ended, load-refusal, load-leaves, operate-leaves, transform-refusal, unless, visited}
+use Rattle.bench.specs.Calls.{begin-refusal, end-refusal, ended, load-refusal, load-leaves, operate-leaves, transform-refusal, visited}
+use Rattle.limits.specs.Faults.{unless}
 use Rattle.jobs.specs.declared.faults.JobFault.{JobFault}
 use Rattle.jobs.specs.declared.faults.JobFault.the-variants.{Bench, Line}
 

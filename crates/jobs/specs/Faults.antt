@@ -5,7 +5,7 @@ use lib.Chars.{codes}
 use Rattle.elements.specs.declared.cards.CardFault.{CardFault}
 use Rattle.elements.specs.Cards.{card-fault-number, card-fault-place}
 use Rattle.pictures.specs.Headers.{number-of, place-of}
-use Rattle.bench.specs.Faults.{fault-number}
+use Rattle.limits.specs.Faults.{fault-number}
 use Rattle.jobs.specs.declared.faults.JobFault.{JobFault}
 use Rattle.jobs.specs.declared.faults.JobFault.the-variants.{Card, Picture, Bench, Line}
 

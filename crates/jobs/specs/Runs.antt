@@ -13,7 +13,7 @@ use Rattle.elements.specs.Offsets.{flagged}
 use Rattle.pictures.specs.declared.Picture.{Picture}
 use Rattle.pictures.specs.declared.PictureFault.{PictureFault}
 use Rattle.pictures.specs.Reading.{read}
-use Rattle.bench.specs.declared.fault.Fault.the-variants.{Side}
+use Rattle.limits.specs.declared.fault.Fault.the-variants.{Side}
 use Rattle.bench.specs.Calls.{opened}
 use Rattle.jobs.specs.declared.faults.JobFault.{JobFault}
 use Rattle.jobs.specs.declared.faults.JobFault.the-variants as job

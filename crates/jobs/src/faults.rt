@@ -2,7 +2,7 @@
 ghost use mathlib.Core.Path.{_≡_};
 ghost use Rattle.jobs.specs.Faults.{fault-layer, job-fault-number, job-fault-place};
 ghost use Rattle.jobs.specs.declared.faults.JobFault.the-variants.{Card, Picture, Bench, Line};
-use bench::Fault;
+use limits::Fault;
 use commands::LineFault;
 use elements::CardFault;
 use pictures::PictureFault;

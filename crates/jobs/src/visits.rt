@@ -1,6 +1,7 @@
 // The visits of a job: the slip is kept between the lines.
 ghost use mathlib.Core.Path.{_≡_};
-ghost use Rattle.bench.specs.Calls.{begin-refusal, end-refusal, ended, unless, visited};
+ghost use Rattle.bench.specs.Calls.{begin-refusal, end-refusal, ended, visited};
+ghost use Rattle.limits.specs.Faults.{unless};
 ghost use Rattle.bench.specs.Model.{rack-outline, rack-state, slate-outline, slate-state};
 ghost use Rattle.jobs.specs.Commands.{answered};
 ghost use Rattle.jobs.specs.Visits.{Holds};
@@ -8,7 +9,7 @@ ghost use Rattle.levels.specs.Gray.{gray-height};
 ghost use Rattle.std.specs.Options.{valueOr};
 ghost use Rattle.std.specs.declared.option.Option.the-variants.{None};
 use crate::faults::JobFault;
-use bench::Fault;
+use limits::Fault;
 use bench::Rack;
 use bench::Slate;
 use bench::Slip;

@@ -1,16 +1,17 @@
 -- Sheets of heights, read by column and row. Assumes nothing.
 -- A sheet is a list of w × h heights, row by row; columns and rows count from 0.
 use Prim.Native.Nat.{ℕ, _+_, _*_, _/_, _%_}
-use mathlib.Core.Bool.{Bool, cond, _&&_}
+use mathlib.Core.Bool.{cond, _&&_}
 use mathlib.Core.List.{List, map}
-use lib.Dec.{eqb, leb, ltb}
+use lib.Dec.{eqb, ltb}
 use lib.IntN.{ℤ, pos, negsuc}
 use lib.ListN.{getD}
 use Rattle.std.specs.Iters.{counting, folded}
 use Rattle.std.specs.declared.result.Result.{Result}
 use Rattle.std.specs.declared.result.Result.the-variants.{Ok, Err}
-use Rattle.morphology.specs.declared.fault.SheetFault.{SheetFault}
-use Rattle.morphology.specs.declared.fault.SheetFault.the-variants.{Side, Length}
+use Rattle.limits.specs.declared.fault.Fault.{Fault}
+use Rattle.limits.specs.declared.fault.Fault.the-variants.{Side, Length}
+use Rattle.limits.specs.Sizes.{lawful-side}
 
 -- the height at column m and row n of a sheet of w × h heights; outside the sheet counts as lowest
 abbrev pub height-at : ℕ → ℕ → List ℕ → ℤ → ℤ → ℕ
@@ -26,17 +27,8 @@ at-place w cell p = cell (p % w) (p / w)
 abbrev pub by-cells : ℕ → ℕ → (ℕ → ℕ → ℕ) → List ℕ
 by-cells w h cell = map (at-place w cell) (counting 0 (w * h))
 
--- a side is 1 to 1,024
-abbrev pub lawful-side : ℕ → Bool
-lawful-side side = leb 1 side && leb side 1024
-
--- the number of a refusal
-abbrev pub sheet-fault-number : SheetFault → ℕ
-sheet-fault-number Side = 1
-sheet-fault-number Length = 4
-
 -- An operation from a list to another: both sides are lawful and both lists have w × h levels, or it refuses.
-abbrev pub sheets-answer : ℕ → ℕ → ℕ → ℕ → Result (Unit {0}) SheetFault
+abbrev pub sheets-answer : ℕ → ℕ → ℕ → ℕ → Result (Unit {0}) Fault
 sheets-answer w h from to =
     cond (lawful-side w && lawful-side h) (cond (eqb from (w * h) && eqb to (w * h)) (Ok tt) (Err Length)) (Err Side)
 

@@ -8,22 +8,22 @@ ghost use Rattle.morphology.specs.Erosion.{eroded, dilated};
 ghost use Rattle.morphology.specs.Passes.{operated};
 ghost use Rattle.morphology.specs.Sheets.{sheets-answer};
 ghost use Rattle.std.specs.Results.{Cases};
-use crate::fault::SheetFault;
+use limits::Fault;
 use crate::operation::Operation;
 use crate::sweep::sweep;
 use elements::Element;
 use levels::level::Level;
 
 // Refuses sides and lengths that make no sheets, in the order of the refusals.
-fn check_sheets(w: usize, h: usize, from: usize, to: usize) -> Result<(), SheetFault>
+fn check_sheets(w: usize, h: usize, from: usize, to: usize) -> Result<(), Fault>
     ensures answers { λ r. ⌜ r ≡ sheets-answer w h from to ⌝ }
     ensures sheets { λ r. ⌜ Cases r (λ _. (1 ≤ w) × (from ≡ w * h) × (to ≡ w * h)) (λ _. Unit {0}) ⌝ }
 {
     if w < 1 || w > 1024 || h < 1 || h > 1024 {
-        return Err(SheetFault::Side);
+        return Err(Fault::Side);
     }
     if from != w * h || to != w * h {
-        return Err(SheetFault::Length);
+        return Err(Fault::Length);
     }
     Ok(())
 }
@@ -37,7 +37,7 @@ pub fn operate<L: Level>(
     w: usize,
     h: usize,
     element: &Element,
-) -> Result<(), SheetFault>
+) -> Result<(), Fault>
     ensures answers { λ r. ⌜ r ≡ sheets-answer w h (length (now (from .entry))) (length (now (to .entry))) ⌝ }
     ensures memory { λ r. ⌜ Cases r
         (λ _. map height (now (to .exit)) ≡ operated op w h (offsets (now (element .entry))) (map height (now (from .entry))))
@@ -59,7 +59,7 @@ pub fn erode<L: Level>(
     w: usize,
     h: usize,
     element: &Element,
-) -> Result<(), SheetFault>
+) -> Result<(), Fault>
     ensures answers { λ r. ⌜ r ≡ sheets-answer w h (length (now (from .entry))) (length (now (to .entry))) ⌝ }
     ensures memory { λ r. ⌜ Cases r
         (λ _. map height (now (to .exit)) ≡ eroded w h (offsets (now (element .entry))) (map height (now (from .entry))))
@@ -77,7 +77,7 @@ pub fn dilate<L: Level>(
     w: usize,
     h: usize,
     element: &Element,
-) -> Result<(), SheetFault>
+) -> Result<(), Fault>
     ensures answers { λ r. ⌜ r ≡ sheets-answer w h (length (now (from .entry))) (length (now (to .entry))) ⌝ }
     ensures memory { λ r. ⌜ Cases r
         (λ _. map height (now (to .exit)) ≡ dilated w h (offsets (now (element .entry))) (map height (now (from .entry))))

@@ -1,6 +1,5 @@
 // Erosion and dilation of sheets of any level kind.
 mod erosion;
-mod fault;
 mod operation;
 mod passes;
 mod runs;
@@ -9,5 +8,4 @@ mod sweep;
 pub use erosion::dilate;
 pub use erosion::erode;
 pub use erosion::operate;
-pub use fault::SheetFault;
 pub use operation::Operation;

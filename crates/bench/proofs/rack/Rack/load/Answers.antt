@@ -5,7 +5,8 @@ use lib.ListN.{length}
 use Rattle.std.proofs.shelf.Lists.{length-map}
 use Rattle.std.proofs.shelf.Results.{err-from-errBy}
 use Rattle.std.specs.declared.result.Result.the-variants.{Err}
-use Rattle.bench.specs.Calls.{load-refusal, told}
+use Rattle.bench.specs.Calls.{load-refusal}
+use Rattle.limits.specs.Faults.{told}
 use Rattle.bench.specs.Model.{overwritten, place-start, rack-state}
 use Rattle.bench.proofs.Memory.{map-overwritten}
 use Rattle.bench.proofs.Refusals.{refused-leaves, accepted-leaves, load-accepted}

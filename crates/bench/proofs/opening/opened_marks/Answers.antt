@@ -5,7 +5,7 @@ use native.Mathlib.Omega.{arith}
 use borrow.Author.Needs.{needs}
 use Rattle.bench.proofs.Refusals.{refused-leaves, accepted-leaves}
 use Rattle.bench.proofs.Held.{held-all, held-whole, cond-same}
-use Rattle.bench.proofs.sizes.opened_marks.Needs as need
+use Rattle.bench.proofs.opening.opened_marks.Needs as need
 
 pub returns : need.returns
 returns c =

@@ -1,9 +1,9 @@
-// The refusals of the bench.
+// The refusals of the library's calls on sheets, tallies and visits.
 ghost use mathlib.Core.Path.{_≡_};
-ghost use Rattle.bench.specs.Faults.{fault-number};
+ghost use Rattle.limits.specs.Faults.{fault-number};
 
-/// Why a call on the bench refused.
-#[derive(Clone, Copy, PartialEq, Debug)]
+/// Why a call refused.
+#[derive(Clone, Copy, PartialEq)]
 pub enum Fault {
     /// A side is not 1 to 1,024.
     Side,
@@ -11,8 +11,8 @@ pub enum Fault {
     Places,
     /// The memory has not the length that sides and places ask for.
     Memory,
-    /// A picture has not as many levels as the sheets have cells.
-    Picture,
+    /// A list has not as many levels as a sheet has cells.
+    Length,
     /// No sheet place has this number.
     SheetPlace,
     /// A flat number is not 1 to 9,999.
@@ -38,7 +38,7 @@ impl Fault {
             Fault::Side => 1,
             Fault::Places => 2,
             Fault::Memory => 3,
-            Fault::Picture => 4,
+            Fault::Length => 4,
             Fault::SheetPlace => 5,
             Fault::Flat => 11,
             Fault::NoVisit => 31,

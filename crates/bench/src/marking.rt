@@ -8,8 +8,8 @@ ghost use Rattle.limits.specs.Faults.{told};
 ghost use Rattle.bench.specs.Model.{outline-of, places-in};
 ghost use Rattle.std.specs.Options.{isSome};
 ghost use Rattle.std.specs.declared.option.Option.the-variants.{None, Some};
-use limits::Fault;
 use crate::marks::Marks;
+use limits::Fault;
 
 impl Marks {
     // How many cells a place has.

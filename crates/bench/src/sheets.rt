@@ -9,13 +9,13 @@ ghost use Rattle.bench.specs.Model.{overwritten, place-start, rack-outline, ra
 ghost use Rattle.elements.specs.Elements.{offsets};
 ghost use Rattle.morphology.specs.declared.operation.Operation.the-variants.{Erosion, Dilation};
 ghost use Rattle.std.specs.Results.{Cases};
-use limits::Fault;
 use crate::planes::area_from;
 use crate::planes::operate_place;
 use crate::planes::store;
 use crate::rack::Rack;
 use elements::Element;
 use levels::level::Level;
+use limits::Fault;
 use morphology::Operation;
 
 impl<L: Level> Rack<'_, '_, L> {

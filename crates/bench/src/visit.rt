@@ -8,13 +8,13 @@ ghost use Rattle.limits.specs.Faults.{unless};
 ghost use Rattle.bench.specs.Model.{rack-outline, rack-state, slate-outline, slate-state};
 ghost use Rattle.std.specs.Results.{Cases};
 ghost use Rattle.std.specs.declared.option.Option.the-variants.{None, Some};
-use limits::Fault;
 use crate::planes::fill;
 use crate::rack::Rack;
 use crate::slate::Slate;
 use crate::slip::EndRefused;
 use crate::slip::Slip;
 use levels::level::Level;
+use limits::Fault;
 
 /// Begins a visit to a flat on a rack and its slate, and hands out the slip for it. No memory changes.
 /// Refuses a flat number that is not 1 to 9,999 (11), a visit open on either (32), and a rack and a slate whose sides

@@ -7,7 +7,7 @@ use Rattle.std.specs.declared.option.Option.the-variants.{Some, None}
 use Rattle.std.specs.declared.result.Result.the-variants.{Ok, Err}
 use Rattle.limits.specs.declared.fault.Fault.{Fault}
 use Rattle.limits.specs.Faults.{tells, told}
-use Rattle.jobs.specs.declared.faults.JobFault.the-variants.{Bench}
+use Rattle.faults.specs.declared.JobFault.the-variants.{Bench}
 use Rattle.jobs.specs.Commands.{answered}
 
 pub carried-refusal : (o : Option Fault) (e : Fault) (x : Option ℕ) → Err e ≡ told o → Err (Bench e) ≡ answered o x

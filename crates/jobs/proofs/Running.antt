@@ -12,7 +12,7 @@ use Rattle.std.specs.Vec.{made}
 use Rattle.std.specs.declared.option.Option.{Option}
 use Rattle.std.specs.declared.result.Result.{Result}
 use Rattle.std.specs.declared.result.Result.the-variants.{Ok, Err}
-use Rattle.jobs.specs.declared.faults.JobFault.{JobFault}
+use Rattle.faults.specs.declared.JobFault.{JobFault}
 use Rattle.jobs.specs.Answers.{answer-line}
 use Rattle.jobs.specs.Commands.{Benches, line-answer, line-leaves}
 use Rattle.jobs.specs.Lines.{lines-of}

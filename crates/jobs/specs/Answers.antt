@@ -7,8 +7,8 @@ use Rattle.std.specs.declared.option.Option.{Option}
 use Rattle.std.specs.declared.option.Option.the-variants.{Some, None}
 use Rattle.std.specs.declared.result.Result.{Result}
 use Rattle.std.specs.declared.result.Result.the-variants.{Ok, Err}
-use Rattle.jobs.specs.declared.faults.JobFault.{JobFault}
-use Rattle.jobs.specs.Faults.{fault-layer, job-fault-number, job-fault-place}
+use Rattle.faults.specs.declared.JobFault.{JobFault}
+use Rattle.faults.specs.Faults.{fault-layer, job-fault-number, job-fault-place}
 
 -- success is "=" with the number that was told, if one was; a fault is "!" with the line, the layer, the number and the place
 abbrev pub answer-line : ℕ → Result (Option ℕ) JobFault → List ℕ

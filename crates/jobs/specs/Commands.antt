@@ -22,8 +22,8 @@ use Rattle.bench.specs.declared.slate.Slate.{Slate}
 use Rattle.bench.specs.Model.{State, rack-state, slate-state}
 use Rattle.bench.specs.Calls.{begin-refusal, end-refusal, ended, load-refusal, load-leaves, operate-leaves, transform-refusal, visited}
 use Rattle.limits.specs.Faults.{unless}
-use Rattle.jobs.specs.declared.faults.JobFault.{JobFault}
-use Rattle.jobs.specs.declared.faults.JobFault.the-variants.{Bench, Line}
+use Rattle.faults.specs.declared.JobFault.{JobFault}
+use Rattle.faults.specs.declared.JobFault.the-variants.{Bench, Line}
 
 -- the bench of a job: its rack and its slate
 pub record Benches : Type 0 where

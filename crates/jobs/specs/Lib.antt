@@ -1,4 +1,3 @@
-pub mod Faults
 pub mod Answers
 pub mod Visits
 pub mod Commands

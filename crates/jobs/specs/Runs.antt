@@ -15,8 +15,8 @@ use Rattle.pictures.specs.declared.PictureFault.{PictureFault}
 use Rattle.pictures.specs.Reading.{read}
 use Rattle.limits.specs.declared.fault.Fault.the-variants.{Side}
 use Rattle.bench.specs.Calls.{opened}
-use Rattle.jobs.specs.declared.faults.JobFault.{JobFault}
-use Rattle.jobs.specs.declared.faults.JobFault.the-variants as job
+use Rattle.faults.specs.declared.JobFault.{JobFault}
+use Rattle.faults.specs.declared.JobFault.the-variants as job
 use Rattle.jobs.specs.Answers.{answer-line}
 use Rattle.jobs.specs.Commands.{Benches, line-answer, line-leaves}
 use Rattle.jobs.specs.Lines.{lines-of}

@@ -3,7 +3,7 @@ ghost use mathlib.Core.Path.{_≡_};
 ghost use Rattle.jobs.specs.Answers.{answer-line};
 ghost use Rattle.std.specs.Of.String.{string-bytes};
 ghost use Rattle.std.specs.Vec.{made};
-use crate::faults::JobFault;
+use faults::JobFault;
 use std::alloc::AllocError;
 use std::alloc::Global;
 

@@ -8,15 +8,15 @@ ghost use Rattle.jobs.specs.Visits.{Holds};
 ghost use Rattle.levels.specs.Gray.{gray-height};
 ghost use Rattle.std.specs.Options.{valueOr};
 ghost use Rattle.std.specs.declared.option.Option.the-variants.{None};
-use crate::faults::JobFault;
-use limits::Fault;
 use bench::Rack;
 use bench::Slate;
 use bench::Slip;
 use bench::begin;
 use bench::end;
+use faults::JobFault;
 use levels::Gray;
 use levels::GrayLevel;
+use limits::Fault;
 
 // Begins a visit, and keeps its slip; with a slip at hand begin is refused.
 pub(crate) fn begin_visit(

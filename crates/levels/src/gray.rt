@@ -4,7 +4,7 @@ ghost use mathlib.Core.Path.{_≡_};
 use crate::level::Level;
 
 /// A gray level: a byte, which is its own height, so that the top is 255.
-#[derive(Clone, Copy, PartialEq, Debug)]
+#[derive(Clone, Copy, PartialEq)]
 pub struct Gray {
     value: u8,
     ghost fits: { value ≤ 255 },

@@ -3,7 +3,7 @@ ghost use Rattle.levels.specs.Mask.{mask-height};
 use crate::level::Level;
 
 /// A mask level: no (height 0) or yes (height 1).
-#[derive(Clone, Copy, PartialEq, Debug)]
+#[derive(Clone, Copy, PartialEq)]
 pub enum Mask {
     No,
     Yes,

@@ -8,11 +8,11 @@ ghost use Rattle.morphology.specs.Erosion.{eroded, dilated};
 ghost use Rattle.morphology.specs.Passes.{operated};
 ghost use Rattle.morphology.specs.Sheets.{sheets-answer};
 ghost use Rattle.std.specs.Results.{Cases};
-use limits::Fault;
 use crate::operation::Operation;
 use crate::sweep::sweep;
 use elements::Element;
 use levels::level::Level;
+use limits::Fault;
 
 // Refuses sides and lengths that make no sheets, in the order of the refusals.
 fn check_sheets(w: usize, h: usize, from: usize, to: usize) -> Result<(), Fault>

@@ -1,10 +1,10 @@
 // The fault of a job, which carries the fault of the layer below whole.
 ghost use mathlib.Core.Path.{_≡_};
-ghost use Rattle.jobs.specs.Faults.{fault-layer, job-fault-number, job-fault-place};
-ghost use Rattle.jobs.specs.declared.faults.JobFault.the-variants.{Card, Picture, Bench, Line};
-use limits::Fault;
+ghost use Rattle.faults.specs.Faults.{fault-layer, job-fault-number, job-fault-place};
+ghost use Rattle.faults.specs.declared.JobFault.the-variants.{Card, Picture, Bench, Line};
 use commands::LineFault;
 use elements::CardFault;
+use limits::Fault;
 use pictures::PictureFault;
 
 /// Why a job refused: the fault of the card, of the picture, of the bench, or of a job line.

@@ -6,8 +6,8 @@ use Rattle.elements.specs.declared.cards.CardFault.{CardFault}
 use Rattle.elements.specs.Cards.{card-fault-number, card-fault-place}
 use Rattle.pictures.specs.Headers.{number-of, place-of}
 use Rattle.limits.specs.Faults.{fault-number}
-use Rattle.jobs.specs.declared.faults.JobFault.{JobFault}
-use Rattle.jobs.specs.declared.faults.JobFault.the-variants.{Card, Picture, Bench, Line}
+use Rattle.faults.specs.declared.JobFault.{JobFault}
+use Rattle.faults.specs.declared.JobFault.the-variants.{Card, Picture, Bench, Line}
 
 -- the letter of the layer
 abbrev pub fault-layer : JobFault → List ℕ

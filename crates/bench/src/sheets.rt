@@ -57,6 +57,7 @@ impl<L: Level> Rack<'_, '_, L> {
         marks.refuse_transform(places, from, to)?;
         let cells = marks.cells();
         let filled = marks.with_filled(to);
+        // Both parts of the memory are lent at once, so the planes leave the rack for the time of the call.
         let planes = std::mem::replace(&mut self.planes, &mut []);
         operate_place(
             op,

@@ -7,13 +7,10 @@ use native.Mathlib.Nat.{add-mul, mul-comm, one-mul}
 use native.Mathlib.Omega.{arith}
 use lib.Dec.{leb, ltb}
 use lib.ListN.{getD}
-use Rattle.std.proofs.shelf.Bits.{div-mul-add, mod-mul-add, mul-le}
-use Rattle.std.proofs.shelf.Tests.{and-parts, leb-true, ltb-true}
-use Rattle.std.specs.Options.{Cases}
-use Rattle.std.specs.declared.option.Option.{Option}
-use Rattle.std.specs.declared.option.Option.the-variants.{Some, None}
+use Rattle.std.proofs.shelf.Bits.{div-below, div-mul-add, le-div, mod-mul-add, mul-le}
+use Rattle.std.proofs.shelf.Tests.{and-from, and-left, and-right, le-leb, le-ltb, lt-leb, lt-ltb}
 use Rattle.morphology.specs.Sheets.{at-place}
-use Rattle.morphology.specs.Passes.{on-side, neighbour, in-row}
+use Rattle.morphology.specs.Passes.{on-side, neighbour, in-row, outside}
 
 -- place row × w + m is column m of that row
 pub at-place-is : (w : ℕ) (cell : ℕ → ℕ → ℕ) (row m : ℕ) → m < w → at-place w cell (row * w + m) ≡ cell m row
@@ -23,37 +20,38 @@ at-place-is w cell row m within = rw (div-mul-add row w m within, mod-mul-add ro
 pub next-row : (row w : ℕ) → row * w + w ≡ (row + 1) * w
 next-row row w = sym (add-mul row 1 w ∙ ap (λ n. row * w + n) (one-mul w))
 
+-- the first rows of the sheet lie within it
+pub rows-within : (w h rows : ℕ) → rows ≤ h → rows * w ≤ w * h
+rows-within w h rows few = omega (arith, mul-le rows w h w few (omega arith), mul-comm w h)
+
 -- a row of the sheet ends within it
 pub row-within : (w h row : ℕ) → row < h → row * w + w ≤ w * h
-row-within w h row on = omega (arith, next-row row w, mul-le (row + 1) w h w (omega arith) (omega arith), mul-comm w h)
+row-within w h row on = omega (arith, next-row row w, rows-within w h (row + 1) (omega arith))
 
--- and so does the row that it reads
-pub source-within : (w h row r : ℕ) (source : Option ℕ) → source ≡ cond (on-side h row r) (Some ((row + r - 3) * w)) None → Cases source (Unit {0}) (λ s. s + w ≤ w * h)
-source-within w h row r source is = rw is (by-row (on-side h row r) (λ t. t))
-  where
-    by-row : (b : Bool) → (b ≡ true → on-side h row r ≡ true) → Cases (cond b (Some ((row + r - 3) * w)) None) (Unit {0}) (λ s. s + w ≤ w * h)
-    by-row true on =
-        let both = and-parts (leb 3 (row + r)) (ltb (row + r) (h + 3)) (on refl) in
-        let low = leb-true 3 (row + r) (both .0) in
-        let high = ltb-true (row + r) (h + 3) (both .1) in
-        row-within w h (row + r - 3) (omega arith)
-    by-row false on = tt
+-- a row whose neighbours lie off the sheet reads outside
+off-row : (w h : ℕ) (f : List ℕ) (c r p : ℕ) → on-side h (p / w) r ≡ false → outside p ≡ at-place w (neighbour w h f c r) p
+off-row w h f c r p off = sym (ap (λ on. cond (on && on-side w (p % w) c) (getD f ((p / w + r - 3) * w + (p % w + c - 3)) 0) 0) off)
 
--- the row r − 3 rows on begins r rows on and three back
-pub row-on : (row r w : ℕ) → 3 ≤ row + r → (row + r - 3) * w + 3 * w ≡ row * w + r * w
-row-on row r w far =
-    let whole : row + r - 3 + 3 ≡ row + r = omega arith in
-    sym (add-mul (row + r - 3) 3 w) ∙ ap (λ n. n * w) whole ∙ add-mul row r w
+-- and so do the first rows, where they read further up
+pub above-outside : (w h : ℕ) (f : List ℕ) (c r above p : ℕ) → 1 ≤ w → above ≤ 3 - r → p < above * w → outside p ≡ at-place w (neighbour w h f c r) p
+above-outside w h f c r above p wide few low =
+    let row : p / w < above = div-below p w above (omega arith) low in
+    off-row w h f c r p (and-left (leb 3 (p / w + r)) (ltb (p / w + r) (h + 3)) (lt-leb 3 (p / w + r) (omega arith)))
 
--- what a row reads is the neighbour
-pub in-row-neighbour : (w h : ℕ) (f : List ℕ) (c r row base : ℕ) (source : Option ℕ) (p : ℕ) → base ≡ row * w → source ≡ cond (on-side h row r) (Some ((row + r - 3) * w)) None → base ≤ p → p < base + w → in-row w f c source base p ≡ at-place w (neighbour w h f c r) p
-in-row-neighbour w h f c r row base source p begins is low high =
-    let m = p - base in
+-- and the last rows, where they read further down
+pub below-outside : (w h : ℕ) (f : List ℕ) (c r first below p : ℕ) → 1 ≤ w → h ≤ first + below → below ≤ r - 3 → first * w ≤ p → p < first * w + below * w → outside p ≡ at-place w (neighbour w h f c r) p
+below-outside w h f c r first below p wide end few low high =
+    let row : first ≤ p / w = le-div first p w (omega arith) low in
+    let some : p / w < first + below = div-below p w (first + below) (omega arith) (omega (arith, add-mul first below w)) in
+    off-row w h f c r p (and-right (leb 3 (p / w + r)) (ltb (p / w + r) (h + 3)) (le-ltb (p / w + r) (h + 3) (omega arith)))
+
+-- what a row reads whose neighbours lie on the sheet, in the row `source`, is the neighbour
+pub in-row-neighbour : (w h : ℕ) (f : List ℕ) (c r row source p : ℕ) → source + 3 ≡ row + r → source < h → row * w ≤ p → p < row * w + w → in-row w f c (source * w) (row * w) p ≡ at-place w (neighbour w h f c r) p
+in-row-neighbour w h f c r row source p is within low high =
+    let m = p - row * w in
     let place : p ≡ row * w + m = omega arith in
-    let reads : in-row w f c source base p ≡ neighbour w h f c r m row =
-    ap (λ s. in-row w f c s base p) is ∙ by-row (on-side h row r) m in
+    let from : source ≡ row + r - 3 = omega arith in
+    let on : on-side h row r ≡ true = and-from (leb 3 (row + r)) (ltb (row + r) (h + 3)) (le-leb 3 (row + r) (omega arith)) (lt-ltb (row + r) (h + 3) (omega arith)) in
+    let reads : in-row w f c (source * w) (row * w) p ≡ neighbour w h f c r m row =
+    ap (λ s. in-row w f c (s * w) (row * w) p) from ∙ sym (ap (λ b. cond (b && on-side w m c) (getD f ((row + r - 3) * w + (m + c - 3)) 0) 0) on) in
     reads ∙ sym (ap (at-place w (neighbour w h f c r)) place ∙ at-place-is w (neighbour w h f c r) row m (omega arith))
-  where
-    by-row : (b : Bool) (m : ℕ) → in-row w f c (cond b (Some ((row + r - 3) * w)) None) base p ≡ cond (b && on-side w (p - base) c) (getD f ((row + r - 3) * w + (p - base + c - 3)) 0) 0
-    by-row true m = refl
-    by-row false m = refl

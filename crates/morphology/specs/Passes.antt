@@ -7,8 +7,6 @@ use lib.Dec.{leb, ltb}
 use lib.IntN.{ℤ, pos, _+ℤ_, _-ℤ_}
 use lib.ListN.{getD}
 use Rattle.std.specs.Iters.{folded}
-use Rattle.std.specs.declared.option.Option.{Option}
-use Rattle.std.specs.declared.option.Option.the-variants.{Some, None}
 use Rattle.morphology.specs.Erosion.{eroded, dilated}
 use Rattle.morphology.specs.Sheets.{height-at}
 use Rattle.morphology.specs.declared.operation.Operation.{Operation}
@@ -51,10 +49,9 @@ swept op w h f offsets p = folded (extreme op) (getD f p 0) (map (reached op w h
 abbrev pub in-run : List ℕ → ℕ → ℕ → ℕ → ℕ
 in-run f s t p = getD f (s + (p - t)) 0
 
--- the height that place p of the row from base on reads: c − 3 columns on in the row from s on, or outside
-abbrev pub in-row : ℕ → List ℕ → ℕ → Option ℕ → ℕ → ℕ → ℕ
-in-row w f c None base p = 0
-in-row w f c (Some s) base p = cond (on-side w (p - base) c) (getD f (s + (p - base + c - 3)) 0) 0
+-- the height that place p of the row from base on reads, c − 3 columns on in the row from s on
+abbrev pub in-row : ℕ → List ℕ → ℕ → ℕ → ℕ → ℕ → ℕ
+in-row w f c s base p = cond (on-side w (p - base) c) (getD f (s + (p - base + c - 3)) 0) 0
 
 -- what lies outside the sheet is lowest
 abbrev pub outside : ℕ → ℕ

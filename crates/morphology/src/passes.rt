@@ -1,60 +1,41 @@
 // Passes of one offset over the rows of a sheet.
-ghost use mathlib.Core.Bool.{cond};
 ghost use mathlib.Core.List.{map};
 ghost use mathlib.Core.Path.{_≡_};
-ghost use Prim.Native.Nat.{_+_, _-_, _*_, _≤_, _<_};
+ghost use Prim.Native.Nat.{_+_, _*_, _≤_};
 ghost use lib.ListN.{length};
-ghost use Rattle.morphology.specs.Passes.{Passed, in-row, neighbour, on-side};
+ghost use Rattle.morphology.specs.Passes.{Passed, in-row, neighbour};
 ghost use Rattle.morphology.specs.Sheets.{at-place};
-ghost use Rattle.std.specs.Options.{Cases};
-ghost use Rattle.std.specs.declared.option.Option.the-variants.{Some, None};
 use crate::operation::Operation;
 use crate::runs::combine;
 use crate::runs::combine_outside;
 use levels::level::Level;
 
-// One row from `base` on, which reads c − 3 columns on in the row from `source` on, or outside the sheet.
+// One row from `base` on, which reads c − 3 columns on in the row from `source` on.
 fn pass_row<L: Level>(
     op: Operation,
     from: &[L],
     to: &mut [L],
+    source: usize,
     base: usize,
-    source: Option<usize>,
     w: usize,
     c: usize,
 )
     requires offset { ⌜ c ≤ 6 ⌝ }
-    requires read { ⌜ Cases source (Unit {0}) (λ s. s + w ≤ length (now from)) ⌝ }
+    requires read { ⌜ source + w ≤ length (now from) ⌝ }
     requires row { ⌜ base + w ≤ length (now to) ⌝ }
     ensures { λ _. ⌜ Passed op (in-row w (map height (now (from .entry))) c source base) (map height (now (to .entry))) (map height (now (to .exit))) base (base + w) ⌝ }
 {
-    let Some(start) = source else {
-        combine_outside(op, to, base, w);
-        return;
-    };
     let left = 3usize.saturating_sub(c).min(w);
     let right = c.saturating_sub(3).min(w);
     let inside = w - left - right;
     combine_outside(op, to, base, left);
-    combine(op, from, to, start + right, base + left, inside);
+    combine(op, from, to, source + right, base + left, inside);
     combine_outside(op, to, base + left + inside, right);
 }
 
-// Where the row r − 3 rows on begins, if it lies on the sheet; `base` is where this row begins.
-fn source_row(row: usize, r: usize, base: usize, w: usize, h: usize) -> Option<usize>
-    requires offset { ⌜ r ≤ 6 ⌝ }
-    requires on_sheet { ⌜ row < h ⌝ }
-    requires begins { ⌜ base ≡ row * w ⌝ }
-    requires sides { ⌜ w ≤ 1024 ⌝ ∗ ⌜ h ≤ 1024 ⌝ }
-    ensures { λ start. ⌜ start ≡ cond (on-side h row r) (Some ((row + r - 3) * w)) None ⌝ }
-{
-    if row + r < 3 || row + r >= h + 3 {
-        return None;
-    }
-    Some(base + r * w - 3 * w)
-}
-
 // Every cell keeps the extreme of itself and of its neighbour c − 3 columns and r − 3 rows on.
+// The rows whose neighbours lie on the sheet have a loop of their own, which reads nothing else: so the test that
+// `from` and `to` do not overlap, on which the vectorised loop depends, holds wherever they lie.
 pub(crate) fn pass<L: Level>(
     op: Operation,
     from: &[L],
@@ -70,10 +51,12 @@ pub(crate) fn pass<L: Level>(
     requires target { ⌜ length (now to) ≡ w * h ⌝ }
     ensures { λ _. ⌜ Passed op (at-place w (neighbour w h (map height (now (from .entry))) c r)) (map height (now (to .entry))) (map height (now (to .exit))) 0 (w * h) ⌝ }
 {
-    let mut base = 0;
-    for row in 0..h {
-        let source = source_row(row, r, base, w, h);
-        pass_row(op, from, to, base, source, w, c);
-        base += w;
+    let above = 3usize.saturating_sub(r).min(h);
+    let below = r.saturating_sub(3).min(h);
+    let inside = h - above - below;
+    combine_outside(op, to, 0, above * w);
+    for row in 0..inside {
+        pass_row(op, from, to, (below + row) * w, (above + row) * w, w, c);
     }
+    combine_outside(op, to, (above + inside) * w, below * w);
 }

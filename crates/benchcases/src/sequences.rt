@@ -1,0 +1,212 @@
+// Sequences of calls on a rack and its slate, and what they leave in the memory.
+use crate::calls::Call;
+use crate::calls::Sizes;
+use crate::calls::make_on;
+use crate::memory::filled;
+use crate::memory::show_memory;
+use elements::Element;
+use levels::level::Level;
+use std::io;
+
+// Two visits with every refusal of the calls between them.
+const VISITS: [Call; 40] = [
+    Call::Load { place: 1, len: 5 },
+    Call::Area(1),
+    Call::Erode { from: 1, to: 2 },
+    Call::End,
+    Call::Begin(0),
+    Call::Begin(10_000),
+    Call::Begin(9_999),
+    Call::Begin(1),
+    Call::Begin(10_000),
+    Call::Load { place: 1, len: 4 },
+    Call::Load { place: 1, len: 6 },
+    Call::Load { place: 1, len: 0 },
+    Call::Load { place: 0, len: 4 },
+    Call::Load { place: 0, len: 5 },
+    Call::Load { place: 5, len: 5 },
+    Call::Area(1),
+    Call::Erode { from: 1, to: 2 },
+    Call::Load { place: 1, len: 5 },
+    Call::Area(1),
+    Call::Erode { from: 1, to: 2 },
+    Call::Area(2),
+    Call::Dilate { from: 2, to: 3 },
+    Call::Area(3),
+    Call::Dilate { from: 1, to: 4 },
+    Call::Area(4),
+    Call::Erode { from: 4, to: 4 },
+    Call::Area(4),
+    Call::Erode { from: 0, to: 1 },
+    Call::Dilate { from: 1, to: 5 },
+    Call::Area(usize::MAX),
+    Call::End,
+    Call::End,
+    Call::Area(1),
+    Call::Begin(1),
+    Call::Area(1),
+    Call::Area(4),
+    Call::Dilate { from: 3, to: 1 },
+    Call::Load { place: 4, len: 5 },
+    Call::Area(4),
+    Call::End,
+];
+
+// Calls that begin no visit, so that none is ended.
+const NO_VISIT: [Call; 3] = [Call::Load { place: 1, len: 5 }, Call::Begin(0), Call::End];
+
+// A visit that is open at the end.
+const OPEN_VISIT: [Call; 3] = [
+    Call::Begin(7),
+    Call::Load { place: 1, len: 5 },
+    Call::Area(1),
+];
+
+// Calls on a rack with no places.
+const NO_PLACES: [Call; 9] = [
+    Call::Area(1),
+    Call::Begin(7),
+    Call::Load { place: 1, len: 0 },
+    Call::Load { place: 1, len: 5 },
+    Call::Erode { from: 1, to: 1 },
+    Call::Dilate { from: 1, to: 2 },
+    Call::Area(1),
+    Call::Area(0),
+    Call::End,
+];
+
+// The first and the last of twelve places, and those before and behind them.
+const TWELVE: [Call; 10] = [
+    Call::Begin(7),
+    Call::Load { place: 12, len: 1 },
+    Call::Load { place: 13, len: 1 },
+    Call::Dilate { from: 12, to: 1 },
+    Call::Area(1),
+    Call::Area(12),
+    Call::Area(13),
+    Call::Erode { from: 12, to: 12 },
+    Call::Area(12),
+    Call::End,
+];
+
+// The sheets of sides 1,024 and 1.
+const LONG: [Call; 9] = [
+    Call::Begin(7),
+    Call::Load {
+        place: 1,
+        len: 1_023,
+    },
+    Call::Load {
+        place: 1,
+        len: 1_024,
+    },
+    Call::Area(1),
+    Call::Dilate { from: 1, to: 1 },
+    Call::Area(1),
+    Call::Erode { from: 1, to: 1 },
+    Call::Area(1),
+    Call::End,
+];
+
+const ROW: Sizes = Sizes {
+    w: 5,
+    h: 1,
+    places: 4,
+};
+
+const TALLY: Sizes = Sizes {
+    w: 5,
+    h: 1,
+    places: 1,
+};
+
+// Makes calls on a rack in memory of `len` highest levels and a slate in memory of `count` numbers 7, and prints the
+// sums of the memory after them.
+fn make_calls<L: Level>(
+    rt: &LibcRuntime,
+    calls: &[Call],
+    element: &Element,
+    picture: &[L],
+    (len, sheets): (usize, Sizes),
+    (count, tallies): (usize, Sizes),
+) -> io::Result<()> {
+    let mut levels = filled(rt.alloc(), L::highest(), len)?;
+    let mut numbers = filled(rt.alloc(), 7, count)?;
+    make_on(
+        rt,
+        calls,
+        element,
+        picture,
+        levels.as_mut_slice(),
+        sheets,
+        numbers.as_mut_slice(),
+        tallies,
+    )?;
+    show_memory(rt, levels.as_slice(), numbers.as_slice())
+}
+
+// The sequences on sheets of five cells.
+fn make_rows<L: Level>(
+    rt: &LibcRuntime,
+    kind: &str,
+    picture: &[L],
+    element: &Element,
+) -> io::Result<()> {
+    let none = Sizes {
+        w: 0,
+        h: 1,
+        places: 4,
+    };
+    let column = Sizes {
+        w: 1,
+        h: 5,
+        places: 1,
+    };
+    println!(rt, "# {kind}: two visits")?;
+    make_calls(rt, &VISITS, element, picture, (30, ROW), (5, TALLY))?;
+    println!(rt, "# {kind}: no visit")?;
+    make_calls(rt, &NO_VISIT, element, picture, (30, ROW), (5, TALLY))?;
+    println!(rt, "# {kind}: a visit that is open at the end")?;
+    make_calls(rt, &OPEN_VISIT, element, picture, (30, ROW), (5, TALLY))?;
+    println!(rt, "# {kind}: a rack and a slate of wrong sizes")?;
+    make_calls(rt, &NO_PLACES, element, picture, (30, none), (5, none))?;
+    println!(rt, "# {kind}: a rack of wrong sizes")?;
+    make_calls(rt, &NO_PLACES, element, picture, (31, ROW), (5, TALLY))?;
+    println!(rt, "# {kind}: a slate of wrong sizes")?;
+    make_calls(rt, &NO_PLACES, element, picture, (30, ROW), (4, TALLY))?;
+    println!(rt, "# {kind}: a slate of other sides")?;
+    make_calls(rt, &NO_PLACES, element, picture, (30, ROW), (5, column))
+}
+
+// Prints the answers to the sequences, and the sums of the memory after each.
+pub(crate) fn make_sequences<L: Level>(
+    rt: &LibcRuntime,
+    kind: &str,
+    picture: &[L],
+    element: &Element,
+) -> io::Result<()> {
+    make_rows(rt, kind, picture, element)?;
+    let highest = filled(rt.alloc(), L::highest(), 1_024)?;
+    let picture = highest.as_slice();
+    let one = Sizes {
+        w: 1,
+        h: 1,
+        places: 12,
+    };
+    println!(rt, "# {kind}: twelve places")?;
+    make_calls(rt, &TWELVE, element, picture, (14, one), (12, one))?;
+    let wide = Sizes {
+        w: 1_024,
+        h: 1,
+        places: 1,
+    };
+    println!(rt, "# {kind}: 1,024 columns")?;
+    make_calls(rt, &LONG, element, picture, (3_072, wide), (1_024, wide))?;
+    let high = Sizes {
+        w: 1,
+        h: 1_024,
+        places: 1,
+    };
+    println!(rt, "# {kind}: 1,024 rows")?;
+    make_calls(rt, &LONG, element, picture, (3_072, high), (1_024, high))
+}

@@ -7,9 +7,9 @@ use native.Mathlib.Omega.{arith}
 use lib.Dec.{eqb, leb}
 use lib.ListN.{length, set}
 use Rattle.std.proofs.shelf.Lists.{length-map}
-use Rattle.std.proofs.shelf.Tests.{and-parts, eqb-true, leb-true, false≢true}
+use Rattle.std.proofs.shelf.Tests.{and-parts, eqb-true, leb-true}
 use Rattle.bench.specs.declared.marks.Marks.{Marks}
-use Rattle.bench.specs.Model.{State, is-place, state-of, places-in, place-start, overwritten}
+use Rattle.bench.specs.Model.{is-place, state-of, places-in, place-start, overwritten}
 use Rattle.bench.specs.Calls.{stored}
 use Rattle.bench.proofs.Stored.{place-within, stored-state, length-overwritten}
 

@@ -1,19 +1,18 @@
 -- Cells written to one place: that place holds them, and the others what they held. Assumes nothing.
-use Prim.Native.Nat.{ℕ, zero, suc, _+_, _-_, _*_, _≤_, _<_}
+use Prim.Native.Nat.{ℕ, _+_, _-_, _*_, _≤_, _<_}
 use mathlib.Core.Path.{_≡_, refl, sym, ap, _∙_}
-use mathlib.Core.Bool.{Bool, true, false, cond, _&&_}
-use mathlib.Core.List.{List, [], _++_}
+use mathlib.Core.Bool.{true, false, cond, _&&_}
+use mathlib.Core.List.{List, []}
 use mathlib.Core.Logic.{_⊎_, inl, inr, _≢_}
 use native.Mathlib.Nat.{add-mul, one-mul}
 use native.Mathlib.Omega.{arith}
-use borrow.Author.Needs.{needs}
 use lib.Dec.{eqb, leb}
 use lib.ListN.{getD, length, set, take, drop}
 use Rattle.std.proofs.shelf.Bits.{mul-le}
 use Rattle.std.proofs.shelf.Lists.{places, same-lists, getD-set-same, getD-set-other, take-at, drop-at, length-append, length-take, length-take-le, length-drop}
-use Rattle.std.proofs.shelf.Tests.{cases-eq, cases-bool, cases-order, eq-eqb, ne-eqb, and-parts, leb-true, le-leb}
+use Rattle.std.proofs.shelf.Tests.{cases-eq, cases-bool, cases-order, eq-eqb, ne-eqb, and-parts, leb-true}
 use Rattle.bench.specs.declared.marks.Marks.{Marks}
-use Rattle.bench.specs.Model.{State, is-place, outline-of, state-of, cells-of, place-start, overwritten}
+use Rattle.bench.specs.Model.{is-place, state-of, cells-of, place-start, overwritten}
 use Rattle.bench.specs.Calls.{stored}
 
 module _ {X : Type 0} (start : ℕ) (cells memory : List X) (room : start + length cells ≤ length memory) where

@@ -1,5 +1,5 @@
 -- The calls on the bench: what each refuses, in the order of its table, and what it leaves. Assumes nothing.
-use Prim.Native.Nat.{ℕ, _+_, _*_}
+use Prim.Native.Nat.{ℕ, _*_}
 use mathlib.Core.Bool.{Bool, true, false, cond, not, _&&_, _||_}
 use mathlib.Core.List.{List, []}
 use lib.Dec.{eqb, leb}
@@ -9,7 +9,6 @@ use Rattle.std.specs.Options.{isSome}
 use Rattle.std.specs.declared.option.Option.{Option}
 use Rattle.std.specs.declared.option.Option.the-variants.{Some, None}
 use Rattle.std.specs.declared.result.Result.{Result}
-use Rattle.std.specs.declared.result.Result.the-variants.{Ok, Err}
 use Rattle.morphology.specs.Sheets.{area}
 use Rattle.morphology.specs.Passes.{operated}
 use Rattle.morphology.specs.declared.operation.Operation.{Operation}

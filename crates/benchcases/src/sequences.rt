@@ -120,16 +120,19 @@ const TALLY: Sizes = Sizes {
     places: 1,
 };
 
-// Makes calls on a rack in memory of `len` highest levels and a slate in memory of `count` numbers 7, and prints the
-// sums of the memory after them.
+// Prints a title, makes calls on a rack in memory of `len` highest levels and a slate in memory of `count` numbers 7, and
+// prints the sums of the memory after them.
 fn make_calls<L: Level>(
     rt: &LibcRuntime,
+    kind: &str,
+    title: &str,
     calls: &[Call],
     element: &Element,
     picture: &[L],
     (len, sheets): (usize, Sizes),
     (count, tallies): (usize, Sizes),
 ) -> io::Result<()> {
+    println!(rt, "# {kind}: {title}")?;
     let mut levels = filled(rt.alloc(), L::highest(), len)?;
     let mut numbers = filled(rt.alloc(), 7, count)?;
     make_on(
@@ -162,20 +165,76 @@ fn make_rows<L: Level>(
         h: 5,
         places: 1,
     };
-    println!(rt, "# {kind}: two visits")?;
-    make_calls(rt, &VISITS, element, picture, (30, ROW), (5, TALLY))?;
-    println!(rt, "# {kind}: no visit")?;
-    make_calls(rt, &NO_VISIT, element, picture, (30, ROW), (5, TALLY))?;
-    println!(rt, "# {kind}: a visit that is open at the end")?;
-    make_calls(rt, &OPEN_VISIT, element, picture, (30, ROW), (5, TALLY))?;
-    println!(rt, "# {kind}: a rack and a slate of wrong sizes")?;
-    make_calls(rt, &NO_PLACES, element, picture, (30, none), (5, none))?;
-    println!(rt, "# {kind}: a rack of wrong sizes")?;
-    make_calls(rt, &NO_PLACES, element, picture, (31, ROW), (5, TALLY))?;
-    println!(rt, "# {kind}: a slate of wrong sizes")?;
-    make_calls(rt, &NO_PLACES, element, picture, (30, ROW), (4, TALLY))?;
-    println!(rt, "# {kind}: a slate of other sides")?;
-    make_calls(rt, &NO_PLACES, element, picture, (30, ROW), (5, column))
+    make_calls(
+        rt,
+        kind,
+        "two visits",
+        &VISITS,
+        element,
+        picture,
+        (30, ROW),
+        (5, TALLY),
+    )?;
+    make_calls(
+        rt,
+        kind,
+        "no visit",
+        &NO_VISIT,
+        element,
+        picture,
+        (30, ROW),
+        (5, TALLY),
+    )?;
+    make_calls(
+        rt,
+        kind,
+        "a visit that is open at the end",
+        &OPEN_VISIT,
+        element,
+        picture,
+        (30, ROW),
+        (5, TALLY),
+    )?;
+    make_calls(
+        rt,
+        kind,
+        "a rack and a slate of wrong sizes",
+        &NO_PLACES,
+        element,
+        picture,
+        (30, none),
+        (5, none),
+    )?;
+    make_calls(
+        rt,
+        kind,
+        "a rack of wrong sizes",
+        &NO_PLACES,
+        element,
+        picture,
+        (31, ROW),
+        (5, TALLY),
+    )?;
+    make_calls(
+        rt,
+        kind,
+        "a slate of wrong sizes",
+        &NO_PLACES,
+        element,
+        picture,
+        (30, ROW),
+        (4, TALLY),
+    )?;
+    make_calls(
+        rt,
+        kind,
+        "a slate of other sides",
+        &NO_PLACES,
+        element,
+        picture,
+        (30, ROW),
+        (5, column),
+    )
 }
 
 // Prints the answers to the sequences, and the sums of the memory after each.
@@ -193,20 +252,44 @@ pub(crate) fn make_sequences<L: Level>(
         h: 1,
         places: 12,
     };
-    println!(rt, "# {kind}: twelve places")?;
-    make_calls(rt, &TWELVE, element, picture, (14, one), (12, one))?;
+    make_calls(
+        rt,
+        kind,
+        "twelve places",
+        &TWELVE,
+        element,
+        picture,
+        (14, one),
+        (12, one),
+    )?;
     let wide = Sizes {
         w: 1_024,
         h: 1,
         places: 1,
     };
-    println!(rt, "# {kind}: 1,024 columns")?;
-    make_calls(rt, &LONG, element, picture, (3_072, wide), (1_024, wide))?;
+    make_calls(
+        rt,
+        kind,
+        "1,024 columns",
+        &LONG,
+        element,
+        picture,
+        (3_072, wide),
+        (1_024, wide),
+    )?;
     let high = Sizes {
         w: 1,
         h: 1_024,
         places: 1,
     };
-    println!(rt, "# {kind}: 1,024 rows")?;
-    make_calls(rt, &LONG, element, picture, (3_072, high), (1_024, high))
+    make_calls(
+        rt,
+        kind,
+        "1,024 rows",
+        &LONG,
+        element,
+        picture,
+        (3_072, high),
+        (1_024, high),
+    )
 }

@@ -10,7 +10,7 @@ use text::fixed;
 use text::number;
 
 /// A command of a job: what a line of it says.
-#[derive(Clone, Copy, PartialEq, Debug)]
+#[derive(Clone, Copy)]
 pub enum Command {
     /// `V flat`: begins a visit.
     Begin { flat: u16 },
@@ -27,7 +27,7 @@ pub enum Command {
 }
 
 /// A line that is no command's: refusal 22, at the column of its first misfit, counted from 1, or one past its end where it ends too early.
-#[derive(Clone, Copy, PartialEq, Debug)]
+#[derive(Clone, Copy)]
 pub struct LineFault {
     pub column: usize,
 }

@@ -15,7 +15,7 @@ ghost use Rattle.std.specs.declared.option.Option.the-variants.{None, Some};
 ghost use Rattle.std.specs.declared.result.Result.the-variants.{Err, Ok};
 
 /// Why a card was refused, with the byte at which that shows.
-#[derive(Clone, Copy, PartialEq, Debug)]
+#[derive(Clone, Copy)]
 pub enum CardFault {
     /// The card has not 1 to 49 records, or is not as long as they make it.
     Length,

@@ -1,8 +1,7 @@
 -- A job's fault: the fault of the layer below, whole. Assumes nothing.
 use Prim.Native.Nat.{ℕ}
-use mathlib.Core.List.{List, [], _∷_}
+use mathlib.Core.List.{List}
 use lib.Chars.{codes}
-use Rattle.elements.specs.declared.cards.CardFault.{CardFault}
 use Rattle.elements.specs.Cards.{card-fault-number, card-fault-place}
 use Rattle.pictures.specs.Headers.{number-of, place-of}
 use Rattle.limits.specs.Faults.{fault-number}

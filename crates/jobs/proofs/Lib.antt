@@ -3,3 +3,4 @@ pub mod Slips
 pub mod Splitting
 pub mod Running
 pub mod Opening
+pub mod Numbers

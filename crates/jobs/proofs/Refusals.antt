@@ -1,10 +1,10 @@
 -- A refusal of the bench is the job's answer, carried whole. Assumes nothing.
 use Prim.Native.Nat.{ℕ}
-use mathlib.Core.Path.{_≡_, refl}
+use mathlib.Core.Path.{_≡_}
 use native.Mathlib.Omega.{arith}
 use Rattle.std.specs.declared.option.Option.{Option}
 use Rattle.std.specs.declared.option.Option.the-variants.{Some, None}
-use Rattle.std.specs.declared.result.Result.the-variants.{Ok, Err}
+use Rattle.std.specs.declared.result.Result.the-variants.{Err}
 use Rattle.limits.specs.declared.fault.Fault.{Fault}
 use Rattle.limits.specs.Faults.{tells, told}
 use Rattle.faults.specs.declared.JobFault.the-variants.{Bench}

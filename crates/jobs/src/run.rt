@@ -11,7 +11,6 @@ ghost use Rattle.jobs.specs.Runs.{opened-bench, printed, run-lines};
 ghost use Rattle.jobs.specs.Visits.{Holds};
 ghost use Rattle.levels.specs.Gray.{gray-height};
 ghost use Rattle.std.specs.Of.String.{string-bytes};
-ghost use Rattle.std.specs.Results.{Cases};
 ghost use Rattle.std.specs.Vec.{made};
 ghost use Rattle.std.specs.declared.option.Option.the-variants.{None};
 use crate::answers::answer_line;

@@ -1,23 +1,21 @@
 -- What a sweep by an element with (0, 0) comes to is the definition of erosion and of dilation. Assumes nothing.
 use Prim.Native.Nat.{ℕ, zero, suc, _+_, _*_, _/_, _%_, _≤_, _<_}
-use mathlib.Core.Path.{_≡_, refl, sym, ap, _∙_}
-use mathlib.Core.Bool.{Bool, true, false, cond, _&&_}
-use mathlib.Core.List.{List, [], _∷_, _++_, map}
+use mathlib.Core.Path.{_≡_, refl, _∙_}
+use mathlib.Core.Bool.{Bool, true, false}
+use mathlib.Core.List.{List, [], _∷_, map}
 use native.Mathlib.Nat.{add-zero, mul-comm}
 use native.Mathlib.Omega.{arith}
-use lib.Dec.{ltb}
-use lib.IntN.{ℤ, pos, _+ℤ_, _-ℤ_}
+use lib.IntN.{ℤ, pos}
 use lib.ListN.{getD, length}
 use Rattle.std.proofs.shelf.Bits.{div-add-mod', div-below, mod-below}
 use Rattle.std.proofs.shelf.Counted.{fill-by-all}
-use Rattle.std.proofs.shelf.Signed.{ints}
 use Rattle.std.proofs.shelf.Tests.{lt-ltb, false≢true}
 use Rattle.std.specs.Iters.{folded}
 use Rattle.elements.specs.Offsets.{flagged, offset-at}
 use Rattle.morphology.specs.declared.operation.Operation.{Operation}
 use Rattle.morphology.specs.declared.operation.Operation.the-variants.{Erosion, Dilation}
 use Rattle.morphology.specs.Sheets.{height-at, at-place}
-use Rattle.morphology.specs.Erosion.{erosion-at, dilation-at, greatest}
+use Rattle.morphology.specs.Erosion.{erosion-at, dilation-at}
 use Rattle.morphology.specs.Passes.{extreme, operated, reached, swept}
 use Rattle.morphology.proofs.Extremes.{absorbs-right, absorbs-start, fold-is-least, fold-is-greatest}
 

@@ -1,5 +1,5 @@
 -- The least and the greatest of some heights, as folds from a height that is among them. Assumes nothing.
-use Prim.Native.Nat.{ℕ, suc, _≤_, min, max}
+use Prim.Native.Nat.{ℕ, suc, _≤_, max}
 use mathlib.Core.Path.{_≡_, refl, sym, ap, _∙_}
 use mathlib.Core.List.{List, [], _∷_}
 use native.Mathlib.Omega.{arith}

@@ -1,13 +1,10 @@
 -- What a pass reads at a place of the element's square is what the operation reads at that offset. Assumes nothing.
 use Prim.Native.Nat.{ℕ, _+_, _-_, _*_, _/_, _≤_, _<_}
-use mathlib.Core.Path.{_≡_, refl, sym, ap, _∙_}
-use mathlib.Core.Logic.{_⊎_, inl, inr}
-use mathlib.Core.Bool.{Bool, true, false, cond, _&&_}
+use mathlib.Core.Path.{_≡_, sym, ap, _∙_}
+use mathlib.Core.Logic.{inl, inr}
 use mathlib.Core.List.{List}
 use native.Mathlib.Omega.{arith}
-use lib.Dec.{leb, ltb}
 use lib.IntN.{ℤ, pos, negsuc, _+ℤ_, _-ℤ_}
-use lib.ListN.{getD}
 use Rattle.std.proofs.shelf.Bits.{div-mul-add, mod-mul-add}
 use Rattle.std.proofs.shelf.Signed.{ints}
 use Rattle.std.proofs.shelf.Tests.{cases-lt}
@@ -16,7 +13,7 @@ use Rattle.elements.specs.Offsets.{offset-at}
 use Rattle.morphology.specs.declared.operation.Operation.{Operation}
 use Rattle.morphology.specs.declared.operation.Operation.the-variants.{Erosion, Dilation}
 use Rattle.morphology.specs.Sheets.{height-at}
-use Rattle.morphology.specs.Passes.{on-side, neighbour, reached, turned}
+use Rattle.morphology.specs.Passes.{neighbour, reached, turned}
 
 -- c − 3 cells on from x, where that is no less than 0, and where it is
 on-from : (x c : ℕ) → 3 ≤ x + c → pos x +ℤ (pos c -ℤ pos 3) ≡ pos (x + c - 3)

@@ -1,7 +1,7 @@
 -- Places of a sheet by row and column. Assumes nothing.
 use Prim.Native.Nat.{ℕ, _+_, _-_, _*_, _/_, _%_, _≤_, _<_}
 use mathlib.Core.Path.{_≡_, refl, sym, ap, _∙_}
-use mathlib.Core.Bool.{Bool, true, false, cond, _&&_}
+use mathlib.Core.Bool.{true, false, cond, _&&_}
 use mathlib.Core.List.{List}
 use native.Mathlib.Nat.{add-mul, mul-comm, one-mul}
 use native.Mathlib.Omega.{arith}

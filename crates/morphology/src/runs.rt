@@ -1,5 +1,4 @@
 // Runs of contiguous cells: the inner loops of erosion and dilation.
-ghost use mathlib.Core.Path.{_≡_};
 ghost use mathlib.Core.List.{map};
 ghost use Prim.Native.Nat.{_+_, _≤_};
 ghost use lib.ListN.{length};

@@ -13,7 +13,7 @@ use text::fixed;
 use text::number;
 
 /// The sides of a picture, and the place of its first cell in the file.
-#[derive(Clone, Copy, PartialEq, Debug)]
+#[derive(Clone, Copy)]
 pub struct Picture {
     pub width: usize,
     pub height: usize,
@@ -21,7 +21,7 @@ pub struct Picture {
 }
 
 /// Why a file is refused, with the place of the byte in question, from 0.
-#[derive(Clone, Copy, PartialEq, Debug)]
+#[derive(Clone, Copy)]
 pub enum PictureFault {
     /// 19: the header is not of the form, at its first misfit, or at the file's end where it ends inside the header.
     Header(usize),

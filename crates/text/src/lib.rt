@@ -7,13 +7,13 @@ ghost use lib.ListN.{length, take};
 ghost use mathlib.Core.Path.{_≡_};
 
 /// The place of the first byte that does not fit, or the text's length where it ends too early.
-#[derive(Clone, Copy, PartialEq, Debug)]
+#[derive(Clone, Copy)]
 pub struct Misfit {
     pub place: usize,
 }
 
 /// A number that stands in a text, and the place after its last digit.
-#[derive(Clone, Copy, PartialEq, Debug)]
+#[derive(Clone, Copy)]
 pub struct Numeral {
     pub value: u16,
     pub end: usize,

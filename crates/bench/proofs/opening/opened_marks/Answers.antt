@@ -2,7 +2,6 @@ use Prim.Native.Nat.{_*_}
 use mathlib.Core.Path.{refl}
 use native.Mathlib.Nat.{add-mul}
 use native.Mathlib.Omega.{arith}
-use borrow.Author.Needs.{needs}
 use Rattle.bench.proofs.Refusals.{refused-leaves, accepted-leaves}
 use Rattle.bench.proofs.Held.{held-all, held-whole, cond-same}
 use Rattle.bench.proofs.opening.opened_marks.Needs as need

@@ -6,9 +6,10 @@ use Rattle.std.specs.declared.option.Option.the-variants.{None}
 use Rattle.elements.specs.Elements.{offsets}
 use Rattle.levels.specs.Gray.{gray-height}
 use Rattle.morphology.specs.declared.operation.Operation.the-variants.{Erosion, Dilation}
-use Rattle.bench.specs.Calls.{load-refusal, load-leaves, operate-leaves, transform-refusal}
+use Rattle.bench.specs.Calls.{load-refusal, load-leaves}
 use Rattle.bench.specs.Model.{rack-outline, rack-state, slate-state}
 use Rattle.jobs.specs.Commands.{answered, benches, command-answer, command-leaves}
+use Rattle.jobs.proofs.Numbers.{operation-answers, operation-leaves}
 use Rattle.jobs.proofs.Slips.{kept-holds}
 use Rattle.jobs.proofs.obey.perform.Needs as need
 
@@ -32,34 +33,24 @@ returns-in-Load c =
 
 pub returns-in-Erode : need.returns-in-Erode
 returns-in-Erode c =
-    let rack = c .args .rack .now in
-    let bench = benches rack (c .args .slate .now) in
+    let bench = benches (c .args .rack .now) (c .args .slate .now) in
     let picture = map gray-height (c .args .picture .now) in
     let shape = offsets (c .args .element .now) in
-    let done = c .erode .ensures in
-    let slate = slate-state (c .args .slate .now) in
-    let refusal = ap (λ k. answered (transform-refusal (rack-outline rack) k (c .from-in-Erode-2 .result)) None) (c .from-in-Erode .ensures) ∙ ap (λ k. answered (transform-refusal (rack-outline rack) (c .in-Erode .from) k) None) (c .from-in-Erode-2 .ensures) in
-    let leaves = ap (λ k. operate-leaves Erosion (rack-state gray-height rack) shape k (c .from-in-Erode-2 .result)) (c .from-in-Erode .ensures) ∙ ap (operate-leaves Erosion (rack-state gray-height rack) shape (c .in-Erode .from)) (c .from-in-Erode-2 .ensures) in
-    let steps = done .steps ∙ leaves in
+    let command = c .args .command in
     record {
-      answers = done .answers ∙ refusal ∙ ap (command-answer picture bench) (sym (c .in-Erode .is));
-      steps = (λ i. record { rack = steps i; slate = slate }) ∙ ap (command-leaves shape picture bench) (sym (c .in-Erode .is));
-      holds = kept-holds _ _ _ _ (done .keeps) (c .pre);
+      answers = operation-answers Erosion bench shape picture command _ _ _ _ (c .from-in-Erode .ensures) (c .from-in-Erode-2 .ensures) _ (ap (command-answer picture bench) (c .in-Erode .is)) (c .erode .ensures .answers);
+      steps = operation-leaves Erosion bench shape picture command _ _ _ _ (c .from-in-Erode .ensures) (c .from-in-Erode-2 .ensures) _ (ap (command-leaves shape picture bench) (c .in-Erode .is)) (c .erode .ensures .steps);
+      holds = kept-holds _ _ _ _ (c .erode .ensures .keeps) (c .pre);
     }
 
 pub returns-in-Dilate : need.returns-in-Dilate
 returns-in-Dilate c =
-    let rack = c .args .rack .now in
-    let bench = benches rack (c .args .slate .now) in
+    let bench = benches (c .args .rack .now) (c .args .slate .now) in
     let picture = map gray-height (c .args .picture .now) in
     let shape = offsets (c .args .element .now) in
-    let done = c .dilate .ensures in
-    let slate = slate-state (c .args .slate .now) in
-    let refusal = ap (λ k. answered (transform-refusal (rack-outline rack) k (c .from-in-Dilate-2 .result)) None) (c .from-in-Dilate .ensures) ∙ ap (λ k. answered (transform-refusal (rack-outline rack) (c .in-Dilate .from) k) None) (c .from-in-Dilate-2 .ensures) in
-    let leaves = ap (λ k. operate-leaves Dilation (rack-state gray-height rack) shape k (c .from-in-Dilate-2 .result)) (c .from-in-Dilate .ensures) ∙ ap (operate-leaves Dilation (rack-state gray-height rack) shape (c .in-Dilate .from)) (c .from-in-Dilate-2 .ensures) in
-    let steps = done .steps ∙ leaves in
+    let command = c .args .command in
     record {
-      answers = done .answers ∙ refusal ∙ ap (command-answer picture bench) (sym (c .in-Dilate .is));
-      steps = (λ i. record { rack = steps i; slate = slate }) ∙ ap (command-leaves shape picture bench) (sym (c .in-Dilate .is));
-      holds = kept-holds _ _ _ _ (done .keeps) (c .pre);
+      answers = operation-answers Dilation bench shape picture command _ _ _ _ (c .from-in-Dilate .ensures) (c .from-in-Dilate-2 .ensures) _ (ap (command-answer picture bench) (c .in-Dilate .is)) (c .dilate .ensures .answers);
+      steps = operation-leaves Dilation bench shape picture command _ _ _ _ (c .from-in-Dilate .ensures) (c .from-in-Dilate-2 .ensures) _ (ap (command-leaves shape picture bench) (c .in-Dilate .is)) (c .dilate .ensures .steps);
+      holds = kept-holds _ _ _ _ (c .dilate .ensures .keeps) (c .pre);
     }

@@ -1,11 +1,11 @@
-use mathlib.Core.Path.{_≡_, sym, ap, _∙_}
+use mathlib.Core.Path.{_≡_, ap, _∙_}
 use mathlib.Core.List.{map}
 use Rattle.std.proofs.shelf.Results.{made-weaker}
 use Rattle.std.specs.Of.String.{string-bytes}
 use Rattle.elements.specs.Elements.{offsets}
 use Rattle.levels.specs.Gray.{gray-height}
 use Rattle.bench.specs.Model.{rack-state, slate-state}
-use Rattle.jobs.specs.Commands.{Benches, benches}
+use Rattle.jobs.specs.Commands.{benches}
 use Rattle.jobs.specs.Lines.{lines-of}
 use Rattle.jobs.specs.Runs.{opened-bench, run-lines}
 use Rattle.jobs.proofs.Opening.{opened-holds, rack-opens, slate-opens}

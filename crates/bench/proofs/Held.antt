@@ -11,13 +11,13 @@ pub cond-same : {X : Type 0} (b : Bool) (x : X) → cond b x x ≡ x
 cond-same true x = refl
 cond-same false x = refl
 
-module _ (places per cells len : ℕ) (sized : len ≡ (places + per) * cells) where
-  pub held-all : (sheets planes : ℕ) → sheets ≡ places * cells → planes + sheets ≡ len → cond (eqb sheets (places * cells) && eqb planes (per * cells)) places 0 ≡ places
+module _ (places working cells len : ℕ) (sized : len ≡ (places + working) * cells) where
+  pub held-all : (sheets planes : ℕ) → sheets ≡ places * cells → planes + sheets ≡ len → cond (eqb sheets (places * cells) && eqb planes (working * cells)) places 0 ≡ places
   held-all sheets planes cut whole =
-      let rest : planes ≡ per * cells = omega (arith, add-mul places per cells) in
+      let rest : planes ≡ working * cells = omega (arith, add-mul places working cells) in
       rw (eq-eqb _ _ cut, eq-eqb _ _ rest) refl
 
-  pub held-whole : per ≡ 0 → cond (eqb len (places * cells) && eqb 0 (0 * cells)) places 0 ≡ places
+  pub held-whole : working ≡ 0 → cond (eqb len (places * cells) && eqb 0 (0 * cells)) places 0 ≡ places
   held-whole none =
       let all : len ≡ places * cells = sized ∙ ap (λ n. n * cells) (ap (λ n. places + n) none ∙ add-zero places) in
       rw (eq-eqb _ _ all, eq-eqb _ _ (sym (zero-mul cells))) refl

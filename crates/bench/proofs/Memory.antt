@@ -13,7 +13,7 @@ use Rattle.std.specs.declared.result.Result.the-variants.{Ok}
 use Rattle.morphology.specs.declared.operation.Operation.{Operation}
 use Rattle.morphology.specs.declared.operation.Operation.the-variants.{Erosion, Dilation}
 use Rattle.morphology.specs.Erosion.{erosion-at, dilation-at}
-use Rattle.morphology.specs.Passes.{operated}
+use Rattle.morphology.specs.Erosion.{operated}
 use Rattle.morphology.specs.Sheets.{at-place, sheets-answer}
 use Rattle.bench.specs.Model.{overwritten}
 

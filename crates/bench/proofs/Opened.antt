@@ -13,7 +13,7 @@ use Rattle.std.specs.declared.option.Option.the-variants.{Some, None}
 use Rattle.limits.specs.declared.fault.Fault.{Fault}
 use Rattle.bench.specs.declared.marks.Marks.{Marks}
 use Rattle.bench.specs.Model.{is-place, state-of, cells-of, places-in}
-use Rattle.bench.specs.Calls.{opened, opening}
+use Rattle.bench.specs.Calls.{opened, as-opened}
 use Rattle.limits.specs.Faults.{unless}
 use Rattle.limits.specs.Sizes.{sizes-refusal}
 
@@ -43,16 +43,16 @@ opened-unless None w h places mw mh n ew eh en = λ i. opened (ew i) (eh i) (en 
 opened-unless (Some f) w h places mw mh n ew eh en = λ i. opened (ew i) (eh i) (en i)
 
 -- clear marks with n places stand for the opened state
-pub opening-state : {X : Type 0} (m : Marks) (per w h places len n : ℕ) (memory : List X) →
-    m .w ≡ unless (sizes-refusal per w h places len) w 0 → m .h ≡ unless (sizes-refusal per w h places len) h 0 → m .places ≡ unless (sizes-refusal per w h places len) places 0 →
+pub as-opened-state : {X : Type 0} (m : Marks) (working w h places len n : ℕ) (memory : List X) →
+    m .w ≡ unless (sizes-refusal working w h places len) w 0 → m .h ≡ unless (sizes-refusal working w h places len) h 0 → m .places ≡ unless (sizes-refusal working w h places len) places 0 →
     m .visit ≡ None → m .filled ≡ replicate 12 false → n ≡ m .places →
-    state-of m n memory ≡ opening per w h places len
-opening-state m per w h places len n memory ew eh en closed clear all =
-    clear-state m n memory closed clear ∙ opened-unless (sizes-refusal per w h places len) w h places (m .w) (m .h) n ew eh (all ∙ en)
+    state-of m n memory ≡ as-opened working w h places len
+as-opened-state m working w h places len n memory ew eh en closed clear all =
+    clear-state m n memory closed clear ∙ opened-unless (sizes-refusal working w h places len) w h places (m .w) (m .h) n ew eh (all ∙ en)
 
 -- marks with the same sides and places, for memory of the same size, have the same number of places
-pub same-places : (m after : Marks) (per sheets sheets′ planes planes′ : ℕ) → after .w ≡ m .w → after .h ≡ m .h → after .places ≡ m .places → sheets′ ≡ sheets → planes′ ≡ planes → places-in after per sheets′ planes′ ≡ places-in m per sheets planes
-same-places m after per sheets sheets′ planes planes′ ew eh ep es el = λ i. cond (eqb (es i) (ep i * (ew i * eh i)) && eqb (el i) (per * (ew i * eh i))) (ep i) 0
+pub same-places : (m after : Marks) (working sheets sheets′ planes planes′ : ℕ) → after .w ≡ m .w → after .h ≡ m .h → after .places ≡ m .places → sheets′ ≡ sheets → planes′ ≡ planes → places-in after working sheets′ planes′ ≡ places-in m working sheets planes
+same-places m after working sheets sheets′ planes planes′ ew eh ep es el = λ i. cond (eqb (es i) (ep i * (ew i * eh i)) && eqb (el i) (working * (ew i * eh i))) (ep i) 0
 
 -- cleared marks stand for what an opening leaves
 pub cleared-state : {X : Type 0} (m after : Marks) (n n′ : ℕ) (memory : List X) → after .w ≡ m .w → after .h ≡ m .h → after .visit ≡ None → after .filled ≡ replicate 12 false → n′ ≡ n → state-of after n′ memory ≡ opened (m .w) (m .h) n

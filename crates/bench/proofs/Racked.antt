@@ -22,29 +22,29 @@ no-place k place =
     omega arith
 
 -- Memory that has a place has all that the marks tell.
-module _ (m : Marks) (per sheets planes k : ℕ) (place : is-place (places-in m per sheets planes) k ≡ true) where
-  fits : (eqb sheets (m .places * (m .w * m .h)) && eqb planes (per * (m .w * m .h))) ≡ true
-  fits = by (eqb sheets (m .places * (m .w * m .h)) && eqb planes (per * (m .w * m .h))) place
+module _ (m : Marks) (working sheets planes k : ℕ) (place : is-place (places-in m working sheets planes) k ≡ true) where
+  fits : (eqb sheets (m .places * (m .w * m .h)) && eqb planes (working * (m .w * m .h))) ≡ true
+  fits = by (eqb sheets (m .places * (m .w * m .h)) && eqb planes (working * (m .w * m .h))) place
     where
       by : (b : Bool) → is-place (cond b (m .places) 0) k ≡ true → b ≡ true
       by true _ = refl
       by false none = absurd (no-place k none)
 
-  pub all-places : places-in m per sheets planes ≡ m .places
+  pub all-places : places-in m working sheets planes ≡ m .places
   all-places = ap (λ b. cond b (m .places) 0) fits
 
-  pub sheets-long : sheets ≡ places-in m per sheets planes * (m .w * m .h)
+  pub sheets-long : sheets ≡ places-in m working sheets planes * (m .w * m .h)
   sheets-long = eqb-true _ _ (and-parts _ _ fits .0) ∙ ap (λ n. n * (m .w * m .h)) (sym all-places)
 
-  pub planes-long : planes ≡ per * (m .w * m .h)
+  pub planes-long : planes ≡ working * (m .w * m .h)
   planes-long = eqb-true _ _ (and-parts _ _ fits .1)
 
   -- and a place has cells
   pub some-place : (1 ≤ m .w) × (1 ≤ m .h)
   some-place =
-      let both = and-parts (leb 1 k) (leb k (places-in m per sheets planes)) place in
+      let both = and-parts (leb 1 k) (leb k (places-in m working sheets planes)) place in
       let low = leb-true 1 k (both .0) in
-      let high = leb-true k (places-in m per sheets planes) (both .1) in
+      let high = leb-true k (places-in m working sheets planes) (both .1) in
       (omega (arith, m .«some_column», all-places), omega (arith, m .«some_row», all-places))
 
 -- another sheet's heights from the start of place k on, and its flag set

@@ -10,7 +10,7 @@ use Rattle.std.specs.declared.option.Option.{Option}
 use Rattle.std.specs.declared.option.Option.the-variants.{Some, None}
 use Rattle.std.specs.declared.result.Result.{Result}
 use Rattle.morphology.specs.Sheets.{area}
-use Rattle.morphology.specs.Passes.{operated}
+use Rattle.morphology.specs.Erosion.{operated}
 use Rattle.morphology.specs.declared.operation.Operation.{Operation}
 use Rattle.limits.specs.declared.fault.Fault.{Fault}
 use Rattle.limits.specs.declared.fault.Fault.the-variants.{Length, SheetPlace, Flat, NoVisit, VisitOpen, OtherFlat, EmptySheet, Unequal}
@@ -27,8 +27,8 @@ opened w h places = record {
 }
 
 -- the state after opening: wrong sizes open with sides 0 and no places
-abbrev pub opening : {X : Type 0} → ℕ → ℕ → ℕ → ℕ → ℕ → State X
-opening per w h places len = unless (sizes-refusal per w h places len) (opened w h places) (opened 0 0 0)
+abbrev pub as-opened : {X : Type 0} → ℕ → ℕ → ℕ → ℕ → ℕ → State X
+as-opened working w h places len = unless (sizes-refusal working w h places len) (opened w h places) (opened 0 0 0)
 
 -- the state with something else in place k, which is then filled
 abbrev pub stored : {X : Type 0} → State X → ℕ → List X → State X

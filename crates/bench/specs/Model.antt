@@ -57,10 +57,10 @@ state-of m places memory = record {
   content = λ k. cond (outline-of m places .filled k) (cells-of (m .w * m .h) k memory) [];
 }
 
--- How many places there are in memory of `sheets` cells with working planes of `planes` cells, of which a place has
--- two for a rack and none for a slate. Memory of another size than the marks tell has no places.
+-- How many places there are in memory of `sheets` cells with working planes of `planes` cells; a rack has two such
+-- planes and a slate none. Memory of another size than the marks tell has no places.
 abbrev pub places-in : Marks → ℕ → ℕ → ℕ → ℕ
-places-in m per sheets planes = cond (eqb sheets (m .places * (m .w * m .h)) && eqb planes (per * (m .w * m .h))) (m .places) 0
+places-in m working sheets planes = cond (eqb sheets (m .places * (m .w * m .h)) && eqb planes (working * (m .w * m .h))) (m .places) 0
 
 -- the outline of a rack and of a slate
 abbrev pub rack-outline : {L : Type 0} → Rack L → Outline

@@ -1,7 +1,7 @@
 // The bench: a rack of sheets and a slate of tallies in lent memory, and the visits on them.
+mod fresh;
 mod marking;
 mod marks;
-mod opening;
 mod planes;
 mod rack;
 mod sheets;

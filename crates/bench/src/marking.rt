@@ -19,13 +19,13 @@ impl Marks {
         self.w * self.h
     }
 
-    // How many places there are in memory of these sizes, with `per` working planes.
-    pub(crate) fn places_in(&self, per: usize, sheets: usize, planes: usize) -> usize
-        requires { ⌜ per ≤ 2 ⌝ }
-        ensures { λ r. ⌜ r ≡ places-in (now (self .entry)) per sheets planes ⌝ }
+    // How many places there are in memory of these sizes, with `working` working planes.
+    pub(crate) fn places_in(&self, working: usize, sheets: usize, planes: usize) -> usize
+        requires { ⌜ working ≤ 2 ⌝ }
+        ensures { λ r. ⌜ r ≡ places-in (now (self .entry)) working sheets planes ⌝ }
     {
         let cells = self.cells();
-        if sheets != self.places * cells || planes != per * cells {
+        if sheets != self.places * cells || planes != working * cells {
             return 0;
         }
         self.places

@@ -5,7 +5,7 @@ ghost use Prim.Native.Nat.{_+_, _*_, _≤_};
 ghost use lib.ListN.{length, replicate, take, drop};
 ghost use Rattle.bench.specs.Model.{overwritten};
 ghost use Rattle.elements.specs.Elements.{offsets};
-ghost use Rattle.morphology.specs.Passes.{operated};
+ghost use Rattle.morphology.specs.Erosion.{operated};
 ghost use Rattle.morphology.specs.Sheets.{area};
 use elements::Element;
 use levels::level::Level;

@@ -2,10 +2,10 @@
 ghost use mathlib.Core.List.{_++_};
 ghost use mathlib.Core.Path.{_≡_};
 ghost use lib.ListN.{length};
-ghost use Rattle.bench.specs.Calls.{opening};
+ghost use Rattle.bench.specs.Calls.{as-opened};
 ghost use Rattle.bench.specs.Model.{rack-state};
+use crate::fresh::opened_marks;
 use crate::marks::Marks;
-use crate::opening::opened_marks;
 use levels::level::Level;
 
 /// A rack holds its sheets in memory of their level kind that is lent to it: w × h levels for each place, and behind
@@ -21,7 +21,7 @@ impl<'a, L: Level> Rack<'a, 'a, L> {
     /// Opens a rack: every place is empty, no visit is open and the memory is as it was.
     /// Wrong sizes, which `check_rack` refuses, open it with sides 0 and no places.
     pub fn open(memory: &'a mut [L], w: usize, h: usize, places: usize) -> Rack<'a, 'a, L>
-        ensures state { λ r. ⌜ rack-state height r ≡ opening 2 w h places (length (now (memory .entry))) ⌝ }
+        ensures state { λ r. ⌜ rack-state height r ≡ as-opened 2 w h places (length (now (memory .entry))) ⌝ }
         ensures memory { λ r. ⌜ now (r .sheets) ++ now (r .planes) ≡ now (memory .entry) ⌝ }
     {
         let marks = opened_marks(2, w, h, places, memory.len());

@@ -9,7 +9,7 @@ use Rattle.std.specs.declared.option.Option.the-variants.{Some, None}
 use Rattle.limits.specs.declared.fault.Fault.{Fault}
 use Rattle.bench.specs.declared.slip.Slip.{Slip}
 use Rattle.bench.specs.Model.{Outline, State}
-use Rattle.bench.specs.Calls.{end-refusal, opened, opening, stored}
+use Rattle.bench.specs.Calls.{end-refusal, opened, as-opened, stored}
 use Rattle.limits.specs.Faults.{unless}
 use Rattle.limits.specs.Sizes.{sizes-refusal}
 use Rattle.benchcases.specs.Visits.{Holds, shared}
@@ -19,8 +19,8 @@ unless-free : (X : Type 0) (o : Option Fault) (w h places : ℕ) → unless {S =
 unless-free X None w h places = refl
 unless-free X (Some fault) w h places = refl
 
-pub opened-free : {X : Type 0} (per w h places len : ℕ) (s : State X) → s ≡ opening per w h places len → s .outline .visit ≡ None
-opened-free {X} per w h places len s is = ap (λ t. t .outline .visit) is ∙ unless-free X (sizes-refusal per w h places len) w h places
+pub opened-free : {X : Type 0} (working w h places len : ℕ) (s : State X) → s ≡ as-opened working w h places len → s .outline .visit ≡ None
+opened-free {X} working w h places len s is = ap (λ t. t .outline .visit) is ∙ unless-free X (sizes-refusal working w h places len) w h places
 
 pub free-holds : (rack slate : Outline) → rack .visit ≡ None → slate .visit ≡ None → Holds None rack slate
 free-holds rack slate r s = record { on-rack = r; on-slate = s; same = λ some. absurd (let z : _≡_ {A = ℕ} 0 1 = cc in omega arith) }

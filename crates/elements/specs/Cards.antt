@@ -93,7 +93,8 @@ unless None flags = flags
 unless (Some fault) flags = Err fault
 
 -- The offsets of `met` and those that the chain meets from record n on, as flags, or the chain's first fault.
--- A card's reading never runs out of its 50 turns, since each record visited sets another of the 49 flags.
+-- A card's reading never runs out of its 50 turns, since each record visited sets another of the 49 flags: the answer of
+-- the first line is never given. That a longer chain meets an offset twice is proved (Chains), and not said here.
 unfoldable pub chain-flags : ℕ → List ℕ → ℕ → List Bool → Result (List Bool) CardFault
 chain-flags zero card n met = Err (Repeated (record-byte n))
 chain-flags (suc turns) card n met =

@@ -3,7 +3,7 @@ use Prim.Native.Nat.{ℕ}
 use mathlib.Core.List.{List}
 use lib.Chars.{codes}
 use Rattle.elements.specs.Cards.{card-fault-number, card-fault-place}
-use Rattle.pictures.specs.Headers.{number-of, place-of}
+use Rattle.pictures.specs.Headers.{picture-fault-number, picture-fault-place}
 use Rattle.limits.specs.Faults.{fault-number}
 use Rattle.faults.specs.declared.JobFault.{JobFault}
 use Rattle.faults.specs.declared.JobFault.the-variants.{Card, Picture, Bench, Line}
@@ -18,13 +18,13 @@ fault-layer (Line f) = codes "J"
 -- the number of the refusal
 abbrev pub job-fault-number : JobFault → ℕ
 job-fault-number (Card f) = card-fault-number f
-job-fault-number (Picture f) = number-of f
+job-fault-number (Picture f) = picture-fault-number f
 job-fault-number (Bench f) = fault-number f
 job-fault-number (Line f) = 22
 
 -- the byte of a card or a picture, or the column of a line; a refusal of the bench has place 0
 abbrev pub job-fault-place : JobFault → ℕ
 job-fault-place (Card f) = card-fault-place f
-job-fault-place (Picture f) = place-of f
+job-fault-place (Picture f) = picture-fault-place f
 job-fault-place (Bench f) = 0
 job-fault-place (Line f) = f .column

@@ -12,10 +12,10 @@ use Rattle.limits.specs.Faults.{first}
 abbrev pub lawful-side : ℕ → Bool
 lawful-side side = leb 1 side && leb side 1024
 
--- Sizes: sides 1 to 1,024, then 1 to 12 places, then memory of exactly (places + per) × w × h cells, where `per` counts
+-- Sizes: sides 1 to 1,024, then 1 to 12 places, then memory of exactly (places + working) × w × h cells, where `working` counts
 -- the working planes, two for a rack and none for a slate.
 abbrev pub sizes-refusal : ℕ → ℕ → ℕ → ℕ → ℕ → Option Fault
-sizes-refusal per w h places len =
+sizes-refusal working w h places len =
     first (not (lawful-side w && lawful-side h)) Side
     (first (not (leb 1 places && leb places 12)) Places
-    (first (not (eqb len ((places + per) * (w * h)))) Memory None))
+    (first (not (eqb len ((places + working) * (w * h)))) Memory None))

@@ -6,12 +6,12 @@ ghost use Rattle.limits.specs.Sizes.{sizes-refusal};
 ghost use Rattle.std.specs.Results.{Cases};
 use crate::fault::Fault;
 
-/// Whether memory of `len` cells serves that many places of w × h cells, with `per` working planes behind them.
+/// Whether memory of `len` cells serves that many places of w × h cells, with `working` working planes behind them.
 /// Refuses a side that is not 1 to 1,024 (1), a number of places that is not 1 to 12 (2), and then a length that is not
-/// (places + per) × w × h (3).
-pub fn check_sizes(per: u8, w: usize, h: usize, places: usize, len: usize) -> Result<(), Fault>
-    ensures answers { λ r. ⌜ r ≡ told (sizes-refusal per w h places len) ⌝ }
-    ensures sizes { λ r. ⌜ Cases r (λ _. len ≡ (places + per) * (w * h)) (λ _. Unit {0}) ⌝ }
+/// (places + working) × w × h (3).
+pub fn check_sizes(working: u8, w: usize, h: usize, places: usize, len: usize) -> Result<(), Fault>
+    ensures answers { λ r. ⌜ r ≡ told (sizes-refusal working w h places len) ⌝ }
+    ensures sizes { λ r. ⌜ Cases r (λ _. len ≡ (places + working) * (w * h)) (λ _. Unit {0}) ⌝ }
 {
     if w < 1 || w > 1024 || h < 1 || h > 1024 {
         return Err(Fault::Side);
@@ -19,7 +19,7 @@ pub fn check_sizes(per: u8, w: usize, h: usize, places: usize, len: usize) -> Re
     if places < 1 || places > 12 {
         return Err(Fault::Places);
     }
-    if len != (places + usize::from(per)) * (w * h) {
+    if len != (places + usize::from(working)) * (w * h) {
         return Err(Fault::Memory);
     }
     Ok(())

@@ -16,7 +16,8 @@ use Rattle.morphology.specs.declared.operation.Operation.{Operation}
 use Rattle.morphology.specs.declared.operation.Operation.the-variants.{Erosion, Dilation}
 use Rattle.morphology.specs.Sheets.{height-at, at-place}
 use Rattle.morphology.specs.Erosion.{erosion-at, dilation-at}
-use Rattle.morphology.specs.Passes.{extreme, operated, reached, swept}
+use Rattle.morphology.specs.Erosion.{operated}
+use Rattle.morphology.specs.Passes.{extreme, reached, swept}
 use Rattle.morphology.proofs.Extremes.{absorbs-right, absorbs-start, fold-is-least, fold-is-greatest}
 
 -- what is read at (0, 0) is the cell's own height

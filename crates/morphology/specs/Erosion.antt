@@ -4,6 +4,8 @@ use mathlib.Core.List.{List, [], _∷_, map}
 use lib.IntN.{ℤ, pos, _+ℤ_, _-ℤ_}
 use Rattle.std.specs.Iters.{folded}
 use Rattle.morphology.specs.Sheets.{height-at, by-cells}
+use Rattle.morphology.specs.declared.operation.Operation.{Operation}
+use Rattle.morphology.specs.declared.operation.Operation.the-variants.{Erosion, Dilation}
 
 -- the least of some heights
 abbrev pub least : List ℕ → ℕ
@@ -29,3 +31,8 @@ eroded w h offsets f = by-cells w h (erosion-at w h offsets f)
 -- the dilated sheet
 abbrev pub dilated : ℕ → ℕ → List (ℤ × ℤ) → List ℕ → List ℕ
 dilated w h offsets f = by-cells w h (dilation-at w h offsets f)
+
+-- what an operation makes of a sheet
+abbrev pub operated : Operation → ℕ → ℕ → List (ℤ × ℤ) → List ℕ → List ℕ
+operated Erosion = eroded
+operated Dilation = dilated

@@ -7,7 +7,6 @@ use lib.Dec.{leb, ltb}
 use lib.IntN.{ℤ, pos, _+ℤ_, _-ℤ_}
 use lib.ListN.{getD}
 use Rattle.std.specs.Iters.{folded}
-use Rattle.morphology.specs.Erosion.{eroded, dilated}
 use Rattle.morphology.specs.Sheets.{height-at}
 use Rattle.morphology.specs.declared.operation.Operation.{Operation}
 use Rattle.morphology.specs.declared.operation.Operation.the-variants.{Erosion, Dilation}
@@ -16,11 +15,6 @@ use Rattle.morphology.specs.declared.operation.Operation.the-variants.{Erosion
 abbrev pub extreme : Operation → ℕ → ℕ → ℕ
 extreme Erosion x y = min x y
 extreme Dilation x y = max x y
-
--- what an operation makes of a sheet
-abbrev pub operated : Operation → ℕ → ℕ → List (ℤ × ℤ) → List ℕ → List ℕ
-operated Erosion = eroded
-operated Dilation = dilated
 
 -- An offset's side from −3 to 3 is told as a number from 0 to 6, three more than it.
 -- Dilation reads at the opposite offset.

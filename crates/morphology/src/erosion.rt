@@ -5,7 +5,7 @@ ghost use Prim.Native.Nat.{_*_, _≤_};
 ghost use lib.ListN.{length};
 ghost use Rattle.elements.specs.Elements.{offsets};
 ghost use Rattle.morphology.specs.Erosion.{eroded, dilated};
-ghost use Rattle.morphology.specs.Passes.{operated};
+ghost use Rattle.morphology.specs.Erosion.{operated};
 ghost use Rattle.morphology.specs.Sheets.{sheets-answer};
 ghost use Rattle.std.specs.Results.{Cases};
 use crate::operation::Operation;

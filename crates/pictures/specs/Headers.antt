@@ -11,16 +11,16 @@ use Rattle.pictures.specs.declared.PictureFault.{PictureFault}
 use Rattle.pictures.specs.declared.PictureFault.the-variants.{Header, Side, Length}
 
 -- `P5` and a newline
-abbrev pub opening : List ℕ
-opening = 80 ∷ 53 ∷ 10 ∷ []
+abbrev pub header-start : List ℕ
+header-start = 80 ∷ 53 ∷ 10 ∷ []
 
 -- a newline, `255` and a newline
-abbrev pub closing : List ℕ
-closing = 10 ∷ 50 ∷ 53 ∷ 53 ∷ 10 ∷ []
+abbrev pub header-end : List ℕ
+header-end = 10 ∷ 50 ∷ 53 ∷ 53 ∷ 10 ∷ []
 
 -- the header for sides w and h, with a blank between them
 abbrev pub header : ℕ → ℕ → List ℕ
-header w h = opening ++ (decimal w ++ (32 ∷ (decimal h ++ closing)))
+header w h = header-start ++ (decimal w ++ (32 ∷ (decimal h ++ header-end)))
 
 -- the places of the first digits of the width and of the height
 abbrev pub width-at : ℕ
@@ -71,12 +71,12 @@ Wrong bytes (Side place) = (w : ℕ) × (h : ℕ) × (rest : List ℕ) × Told w
 Wrong bytes (Length place) = (w : ℕ) × (h : ℕ) × (rest : List ℕ) × (bytes ≡ header w h ++ rest) × Wrong-length w h rest place
 
 -- the refusal's number, and its place
-abbrev pub number-of : PictureFault → ℕ
-number-of (Header place) = 19
-number-of (Side place) = 1
-number-of (Length place) = 20
+abbrev pub picture-fault-number : PictureFault → ℕ
+picture-fault-number (Header place) = 19
+picture-fault-number (Side place) = 1
+picture-fault-number (Length place) = 20
 
-abbrev pub place-of : PictureFault → ℕ
-place-of (Header place) = place
-place-of (Side place) = place
-place-of (Length place) = place
+abbrev pub picture-fault-place : PictureFault → ℕ
+picture-fault-place (Header place) = place
+picture-fault-place (Side place) = place
+picture-fault-place (Length place) = place

@@ -13,11 +13,11 @@ use Rattle.text.specs.Forms.{Form, Reading, scan}
 use Rattle.pictures.specs.declared.Picture.{Picture}
 use Rattle.pictures.specs.declared.PictureFault.{PictureFault}
 use Rattle.pictures.specs.declared.PictureFault.the-variants.{Header, Side, Length}
-use Rattle.pictures.specs.Headers.{opening, closing, header, width-at, height-at, Lawful-side, Is-file, Wrong}
+use Rattle.pictures.specs.Headers.{header-start, header-end, header, width-at, height-at, Lawful-side, Is-file, Wrong}
 
 -- the form of a header, after which anything may come
 abbrev pub header-form : Form
-header-form = forms.fixed opening (forms.number 1 (forms.fixed (32 ∷ []) (forms.number 1 (forms.fixed closing forms.anything))))
+header-form = forms.fixed header-start (forms.number 1 (forms.fixed (32 ∷ []) (forms.number 1 (forms.fixed header-end forms.anything))))
 
 -- what reading by that form gives at the start of a file
 abbrev pub Scans-as : List ℕ → Result Reading Misfit → Type 0

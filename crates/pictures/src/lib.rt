@@ -1,6 +1,6 @@
 //! Picture files: how the header of one is read, and what is refused.
 ghost use Prim.Native.Nat.{_≤_};
-ghost use Rattle.pictures.specs.Headers.{height-at, number-of, place-of, Fills};
+ghost use Rattle.pictures.specs.Headers.{height-at, picture-fault-number, picture-fault-place, Fills};
 ghost use Rattle.pictures.specs.Reading.{read, sized, Scans-as, Reads-back-pictures, Reads-only-pictures, Refuses-what-is-wrong};
 ghost use Rattle.std.specs.Results.{Cases};
 ghost use Rattle.std.specs.Vec.{made};
@@ -34,7 +34,7 @@ pub enum PictureFault {
 impl PictureFault {
     /// The number of this refusal.
     pub fn number(self) -> u32
-        ensures { λ r. ⌜ r ≡ number-of self ⌝ }
+        ensures { λ r. ⌜ r ≡ picture-fault-number self ⌝ }
     {
         match self {
             PictureFault::Header(_) => 19,
@@ -45,7 +45,7 @@ impl PictureFault {
 
     /// The place of the byte in question.
     pub fn place(self) -> usize
-        ensures { λ r. ⌜ r ≡ place-of self ⌝ }
+        ensures { λ r. ⌜ r ≡ picture-fault-place self ⌝ }
     {
         match self {
             PictureFault::Header(place) => place,

@@ -6,7 +6,7 @@ use lib.ListN.{length, take, drop}
 use Rattle.std.proofs.shelf.Lists.{length-take, length-drop}
 use Rattle.std.proofs.shelf.Results.{cases-at-ok}
 use Rattle.elements.specs.Elements.{offsets}
-use Rattle.morphology.specs.Passes.{operated}
+use Rattle.morphology.specs.Erosion.{operated}
 use Rattle.bench.specs.Model.{overwritten}
 use Rattle.bench.proofs.Memory.{heights-of-part, map-overwritten, sheets-accepted}
 use Rattle.bench.proofs.planes.operate_place.Needs as need

@@ -7,7 +7,7 @@ use lib.ListN.{length}
 use Rattle.std.proofs.shelf.Results.{err-from-errBy}
 use Rattle.std.specs.declared.result.Result.the-variants.{Err}
 use Rattle.elements.specs.Elements.{offsets}
-use Rattle.morphology.specs.Passes.{operated}
+use Rattle.morphology.specs.Erosion.{operated}
 use Rattle.bench.specs.Calls.{stored}
 use Rattle.bench.specs.Model.{overwritten, place-start, places-in, rack-state, state-of, cells-of}
 use Rattle.bench.proofs.Memory.{length-operated}

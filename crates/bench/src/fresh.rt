@@ -11,20 +11,20 @@ use crate::marks::Marks;
 use limits::check_sizes;
 
 // The marks of a rack or a slate as it opens: with sides 0 and no places where the sizes are wrong.
-pub(crate) fn opened_marks(per: u8, w: usize, h: usize, places: usize, len: usize) -> Marks
-    requires { ⌜ per ≤ 2 ⌝ }
-    ensures w { λ r. ⌜ r .w ≡ unless (sizes-refusal per w h places len) w 0 ⌝ }
-    ensures h { λ r. ⌜ r .h ≡ unless (sizes-refusal per w h places len) h 0 ⌝ }
-    ensures places { λ r. ⌜ r .places ≡ unless (sizes-refusal per w h places len) places 0 ⌝ }
+pub(crate) fn opened_marks(working: u8, w: usize, h: usize, places: usize, len: usize) -> Marks
+    requires { ⌜ working ≤ 2 ⌝ }
+    ensures w { λ r. ⌜ r .w ≡ unless (sizes-refusal working w h places len) w 0 ⌝ }
+    ensures h { λ r. ⌜ r .h ≡ unless (sizes-refusal working w h places len) h 0 ⌝ }
+    ensures places { λ r. ⌜ r .places ≡ unless (sizes-refusal working w h places len) places 0 ⌝ }
     ensures visit { λ r. ⌜ r .visit ≡ None ⌝ }
     ensures filled { λ r. ⌜ r .filled ≡ replicate 12 false ⌝ }
     ensures room { λ r. ⌜ r .places * (r .w * r .h) ≤ len ⌝ }
-    ensures held { λ r. ⌜ ((sheets planes : ℕ) → sheets ≡ r .places * (r .w * r .h) → planes + sheets ≡ len → places-in r per sheets planes ≡ r .places) ⌝ }
-    ensures whole { λ r. ⌜ (per ≡ 0 → places-in r 0 len 0 ≡ r .places) ⌝ }
+    ensures held { λ r. ⌜ ((sheets planes : ℕ) → sheets ≡ r .places * (r .w * r .h) → planes + sheets ≡ len → places-in r working sheets planes ≡ r .places) ⌝ }
+    ensures whole { λ r. ⌜ (working ≡ 0 → places-in r 0 len 0 ≡ r .places) ⌝ }
 {
     let visit = None;
     let filled = [false; 12];
-    match check_sizes(per, w, h, places, len) {
+    match check_sizes(working, w, h, places, len) {
         Err(_) => return Marks {
             w: 0,
             h: 0,

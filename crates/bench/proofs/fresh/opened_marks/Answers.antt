@@ -4,7 +4,7 @@ use native.Mathlib.Nat.{add-mul}
 use native.Mathlib.Omega.{arith}
 use Rattle.bench.proofs.Refusals.{refused-leaves, accepted-leaves}
 use Rattle.bench.proofs.Held.{held-all, held-whole, cond-same}
-use Rattle.bench.proofs.opening.opened_marks.Needs as need
+use Rattle.bench.proofs.fresh.opened_marks.Needs as need
 
 pub returns : need.returns
 returns c =
@@ -15,9 +15,9 @@ returns c =
       places = accepted-leaves _ _ _ accepted;
       visit = refl;
       filled = refl;
-      room = omega (arith, c .in-Ok .ensures tt .sizes, add-mul (c .args .places) (c .args .per) (c .args .w * c .args .h));
-      held = held-all (c .args .places) (c .args .per) (c .args .w * c .args .h) (c .args .len) (c .in-Ok .ensures tt .sizes);
-      whole = held-whole (c .args .places) (c .args .per) (c .args .w * c .args .h) (c .args .len) (c .in-Ok .ensures tt .sizes);
+      room = omega (arith, c .in-Ok .ensures tt .sizes, add-mul (c .args .places) (c .args .working) (c .args .w * c .args .h));
+      held = held-all (c .args .places) (c .args .working) (c .args .w * c .args .h) (c .args .len) (c .in-Ok .ensures tt .sizes);
+      whole = held-whole (c .args .places) (c .args .working) (c .args .w * c .args .h) (c .args .len) (c .in-Ok .ensures tt .sizes);
     }
 
 pub returns-in-Err : need.returns-in-Err

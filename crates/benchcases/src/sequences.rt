@@ -148,6 +148,19 @@ fn make_calls<L: Level>(
     show_memory(rt, levels.as_slice(), numbers.as_slice())
 }
 
+// Sizes that make no rack and no slate, and those of a slate of other sides.
+const NONE: Sizes = Sizes {
+    w: 0,
+    h: 1,
+    places: 4,
+};
+
+const COLUMN: Sizes = Sizes {
+    w: 1,
+    h: 5,
+    places: 1,
+};
+
 // The sequences on sheets of five cells.
 fn make_rows<L: Level>(
     rt: &LibcRuntime,
@@ -155,87 +168,48 @@ fn make_rows<L: Level>(
     picture: &[L],
     element: &Element,
 ) -> io::Result<()> {
-    let none = Sizes {
-        w: 0,
-        h: 1,
-        places: 4,
-    };
-    let column = Sizes {
-        w: 1,
-        h: 5,
-        places: 1,
-    };
-    make_calls(
-        rt,
-        kind,
-        "two visits",
-        &VISITS,
-        element,
-        picture,
-        (30, ROW),
-        (5, TALLY),
-    )?;
-    make_calls(
-        rt,
-        kind,
-        "no visit",
-        &NO_VISIT,
-        element,
-        picture,
-        (30, ROW),
-        (5, TALLY),
-    )?;
-    make_calls(
-        rt,
-        kind,
-        "a visit that is open at the end",
-        &OPEN_VISIT,
-        element,
-        picture,
-        (30, ROW),
-        (5, TALLY),
-    )?;
-    make_calls(
-        rt,
-        kind,
-        "a rack and a slate of wrong sizes",
-        &NO_PLACES,
-        element,
-        picture,
-        (30, none),
-        (5, none),
-    )?;
-    make_calls(
-        rt,
-        kind,
-        "a rack of wrong sizes",
-        &NO_PLACES,
-        element,
-        picture,
-        (31, ROW),
-        (5, TALLY),
-    )?;
-    make_calls(
-        rt,
-        kind,
-        "a slate of wrong sizes",
-        &NO_PLACES,
-        element,
-        picture,
-        (30, ROW),
-        (4, TALLY),
-    )?;
-    make_calls(
-        rt,
-        kind,
-        "a slate of other sides",
-        &NO_PLACES,
-        element,
-        picture,
-        (30, ROW),
-        (5, column),
-    )
+    let rows: [(&str, &[Call], (usize, Sizes), (usize, Sizes)); 7] = [
+        ("two visits", &VISITS, (30, ROW), (5, TALLY)),
+        ("no visit", &NO_VISIT, (30, ROW), (5, TALLY)),
+        (
+            "a visit that is open at the end",
+            &OPEN_VISIT,
+            (30, ROW),
+            (5, TALLY),
+        ),
+        (
+            "a rack and a slate of wrong sizes",
+            &NO_PLACES,
+            (30, NONE),
+            (5, NONE),
+        ),
+        ("a rack of wrong sizes", &NO_PLACES, (31, ROW), (5, TALLY)),
+        ("a slate of wrong sizes", &NO_PLACES, (30, ROW), (4, TALLY)),
+        ("a slate of other sides", &NO_PLACES, (30, ROW), (5, COLUMN)),
+    ];
+    for (title, calls, rack, slate) in rows {
+        make_calls(rt, kind, title, calls, element, picture, rack, slate)?;
+    }
+    Ok(())
 }
+
+const ONE: Sizes = Sizes {
+    w: 1,
+    h: 1,
+    places: 12,
+};
+
+const WIDE: Sizes = Sizes {
+    w: 1_024,
+    h: 1,
+    places: 1,
+};
+
+const HIGH: Sizes = Sizes {
+    w: 1,
+    h: 1_024,
+    places: 1,
+};
 
 // Prints the answers to the sequences, and the sums of the memory after each.
 pub(crate) fn make_sequences<L: Level>(
@@ -246,50 +220,22 @@ pub(crate) fn make_sequences<L: Level>(
 ) -> io::Result<()> {
     make_rows(rt, kind, picture, element)?;
     let highest = filled(rt.alloc(), L::highest(), 1_024)?;
-    let picture = highest.as_slice();
-    let one = Sizes {
-        w: 1,
-        h: 1,
-        places: 12,
-    };
-    make_calls(
-        rt,
-        kind,
-        "twelve places",
-        &TWELVE,
-        element,
-        picture,
-        (14, one),
-        (12, one),
-    )?;
-    let wide = Sizes {
-        w: 1_024,
-        h: 1,
-        places: 1,
-    };
-    make_calls(
-        rt,
-        kind,
-        "1,024 columns",
-        &LONG,
-        element,
-        picture,
-        (3_072, wide),
-        (1_024, wide),
-    )?;
-    let high = Sizes {
-        w: 1,
-        h: 1_024,
-        places: 1,
-    };
-    make_calls(
-        rt,
-        kind,
-        "1,024 rows",
-        &LONG,
-        element,
-        picture,
-        (3_072, high),
-        (1_024, high),
-    )
+    let rows: [(&str, &[Call], (usize, Sizes), (usize, Sizes)); 3] = [
+        ("twelve places", &TWELVE, (14, ONE), (12, ONE)),
+        ("1,024 columns", &LONG, (3_072, WIDE), (1_024, WIDE)),
+        ("1,024 rows", &LONG, (3_072, HIGH), (1_024, HIGH)),
+    ];
+    for (title, calls, rack, slate) in rows {
+        make_calls(
+            rt,
+            kind,
+            title,
+            calls,
+            element,
+            highest.as_slice(),
+            rack,
+            slate,
+        )?;
+    }
+    Ok(())
 }

@@ -6,6 +6,7 @@ cd "$(dirname "$0")"
 tests/refused.sh
 said=$(mktemp)
 trap 'rm -f "$said"' EXIT
-rt ci | tee "$said"
+# One check more than there are processors keeps them all busy where a check waits.
+RT_JOBS=${RT_JOBS:-3} rt ci | tee "$said"
 tests/files.sh
 tail -n 1 "$said"

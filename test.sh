@@ -6,7 +6,6 @@ cd "$(dirname "$0")"
 tests/refused.sh
 said=$(mktemp)
 trap 'rm -f "$said"' EXIT
-# One check more than there are processors keeps them all busy where a check waits.
-RT_JOBS=${RT_JOBS:-3} rt ci | tee "$said"
+rt ci | tee "$said"
 tests/files.sh
 tail -n 1 "$said"

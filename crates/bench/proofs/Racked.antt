@@ -1,11 +1,11 @@
--- A place of a rack or a slate in its memory, and a sheet stored in one. Assumes nothing.
+-- A sheet stored in a place of a rack. Assumes nothing.
 use Rattle.std.proofs.Common.{◌≡◌, ℕ, ◌+◌, ◌-◌, ◌*◌, ◌≤◌, Bool, true, false, cond, ◌&&◌, eqb, leb, List, map, length, set, sym, refl, ap, ◌∙◌, arith}
-use Rattle.std.proofs.lemmas.List.{length-map, length-take, length-drop}
+use Rattle.std.proofs.lemmas.List.{length-map}
 use Rattle.std.proofs.lemmas.Bool.{and_parts, eqb-true, leb-true}
 use Rattle.bench.specs.declared.marks.Marks.{Marks}
-use Rattle.bench.specs.Model.{cells_of, is_place, no_sheet, overwritten, place_start, places_in_lem, sheet_in, state_of}
+use Rattle.bench.specs.Model.{is_place, state_of, places_in_lem, place_start, overwritten}
 use Rattle.bench.specs.Calls.{stored}
-use Rattle.bench.proofs.Stored.{cells_elsewhere, cells_here, length-overwritten, place_within, stored_state}
+use Rattle.bench.proofs.Stored.{place_within, stored_state, length-overwritten}
 
 -- no place is one of none
 no_place : (k : ℕ) → is_place 0 k ≡ true → ⊥
@@ -30,13 +30,6 @@ module _ (m : Marks) (working sheets planes k : ℕ) (place : is_place (places_i
   pub sheets_long : sheets ≡ places_in_lem m working sheets planes * (m.w * m.h)
   sheets_long = eqb-true _ _ (and_parts _ _ fits).0 ∙ ap (λ n. n * (m.w * m.h)) (sym all_places)
 
-  -- so the place lies in it, and has all its cells
-  pub place_in_memory : place_start (m.w * m.h) k + m.w * m.h ≤ sheets
-  place_in_memory = rw sheets_long (place_within (m.w * m.h) (places_in_lem m working sheets planes) k place)
-
-  pub cells_long : {X : Type 0} (memory : List X) → length memory ≡ sheets → length (cells_of (m.w * m.h) k memory) ≡ m.w * m.h
-  cells_long memory long = let within = place_in_memory in simp (length-take, length-drop) (omega arith)
-
   pub planes_long : planes ≡ working * (m.w * m.h)
   planes_long = eqb-true _ _ (and_parts _ _ fits).1
 
@@ -53,7 +46,7 @@ pub sheet_stored : {L : Type 0} (height : L → ℕ) (m after : Marks) (k planes
     is_place (places_in_lem m 2 (length was) planes) k ≡ true → length sheet ≡ m.w * m.h →
     map height is ≡ overwritten (place_start (m.w * m.h) k) sheet (map height was) →
     after.w ≡ m.w → after.h ≡ m.h → after.places ≡ m.places → after.visit ≡ m.visit → after.filled ≡ set m.filled (k - 1) true →
-    state_of no_sheet after (places_in_lem after 2 (length is) planes) (sheet_in after (map height is)) ≡ stored (state_of no_sheet m (places_in_lem m 2 (length was) planes) (sheet_in m (map height was))) k sheet
+    state_of after (places_in_lem after 2 (length is) planes) (map height is) ≡ stored (state_of m (places_in_lem m 2 (length was) planes) (map height was)) k sheet
 sheet_stored height m after k planes was is sheet place long written ew eh ep ev ef =
     let n = places_in_lem m 2 (length was) planes in
     let cells = m.w * m.h in
@@ -61,8 +54,7 @@ sheet_stored height m after k planes was is sheet place long written ew eh ep ev
     let room : place_start cells k + length sheet ≤ length (map height was) = omega (arith, place_within cells n k place) in
     let same : length is ≡ length was = sym (length-map is height) ∙ ap length written ∙ length-overwritten (place_start cells k) sheet (map height was) room ∙ length-map was height in
     let few : n ≤ length m.filled = omega (arith, m.twelve, m.few, all_places m 2 (length was) planes k place) in
-    (λ i. state_of no_sheet after (cond (eqb (length is) (ep i * (ew i * eh i)) && eqb planes (2 * (ew i * eh i))) (ep i) 0) (λ j. cells_of (ew i * eh i) j (map height is)))
-    ∙ ap (λ l. state_of no_sheet after (places_in_lem m 2 l planes) (sheet_in m (map height is))) same
-    ∙ ap (λ hs. state_of no_sheet after n (sheet_in m hs)) written
-    ∙ stored_state no_sheet m n k (sheet_in m (map height was)) (sheet_in m (overwritten (place_start cells k) sheet (map height was))) sheet place few
-    (cells_here cells n k sheet (map height was) place long heights) (cells_elsewhere cells n k sheet (map height was) place long heights) after ew eh ev ef
+    (λ i. state_of after (cond (eqb (length is) (ep i * (ew i * eh i)) && eqb planes (2 * (ew i * eh i))) (ep i) 0) (map height is))
+    ∙ ap (λ l. state_of after (places_in_lem m 2 l planes) (map height is)) same
+    ∙ ap (state_of after n) written
+    ∙ stored_state m n k sheet (map height was) place few long heights after ew eh ev ef

@@ -1,5 +1,5 @@
--- What is written to one place is what that place holds, and the others hold what they held. Assumes nothing.
-use Rattle.std.proofs.Common.{◌≡◌, ℕ, ◌+◌, ◌-◌, ◌*◌, ◌<◌, ◌≤◌, true, false, cond, ◌&&◌, eqb, leb, ◌≢◌, ◌⊎◌, List, length, get_or, take, drop, set, sym, refl, ap, ◌∙◌, inl, inr, add-mul, one-mul, arith}
+-- Cells written to one place: that place holds them, and the others what they held. Assumes nothing.
+use Rattle.std.proofs.Common.{◌≡◌, ℕ, ◌+◌, ◌-◌, ◌*◌, ◌<◌, ◌≤◌, true, false, cond, ◌&&◌, eqb, leb, ◌≢◌, ◌⊎◌, List, [], length, get_or, take, drop, set, sym, refl, ap, ◌∙◌, inl, inr, add-mul, one-mul, arith}
 use Rattle.std.proofs.lemmas.Nat.{mul-le}
 use Rattle.std.proofs.lemmas.List.{places, same_lists, get_or-set_same, get_or-set_other, take_at, drop_at, length-append, length-take, length-take-le, length-drop}
 use Rattle.std.proofs.lemmas.Bool.{cases_eq, cases_Bool, cases_order, eq-eqb, ne_eqb, and_parts, leb-true}
@@ -12,13 +12,13 @@ module _ {X : Type 0} (start : ℕ) (cells memory : List X) (room : start + leng
   length-overwritten = simp (length-append, length-take, length-drop) (omega arith)
 
   -- the cells that were written
-  taken_written : take (length cells) (drop start (overwritten start cells memory)) ≡ cells
+  pub taken_written : take (length cells) (drop start (overwritten start cells memory)) ≡ cells
   taken_written =
       let front : length (take start memory) ≡ start = length-take-le start memory (omega arith) in
       ap (take (length cells)) (drop_at (take start memory) _ start front) ∙ take_at cells _ (length cells) refl
 
   -- cells apart from them
-  taken_apart : (n s : ℕ) → (s + n ≤ start) ⊎ (start + length cells ≤ s) → s + n ≤ length memory → take n (drop s (overwritten start cells memory)) ≡ take n (drop s memory)
+  pub taken_apart : (n s : ℕ) → (s + n ≤ start) ⊎ (start + length cells ≤ s) → s + n ≤ length memory → take n (drop s (overwritten start cells memory)) ≡ take n (drop s memory)
   taken_apart n s apart within = same_lists _ _ (simp (length-take, length-drop, length-append) (omega arith))
       (λ k d h. elim apart [ inl below ↦ grind (arith, places) | inr above ↦ grind (arith, places) ])
 
@@ -32,41 +32,26 @@ places_apart c j k first second other = elim (cases_order j k) [
     after : (i l : ℕ) → 1 ≤ i → i < l → place_start c i + c ≤ place_start c l
     after i l one less = omega (arith, mul-le (i - 1 + 1) c (l - 1) c (omega arith) (omega arith), add-mul (i - 1) 1 c, one-mul c)
 
--- places count from 1 to their number
-from_one : (n k : ℕ) → is_place n k ≡ true → 1 ≤ k
-from_one n k place = leb-true 1 k (and_parts (leb 1 k) (leb k n) place).0
-
-pub up_to_number : (n k : ℕ) → is_place n k ≡ true → k ≤ n
-up_to_number n k place = leb-true k n (and_parts (leb 1 k) (leb k n) place).1
-
 -- a place ends within the memory of all of them
 pub place_within : (c n k : ℕ) → is_place n k ≡ true → place_start c k + c ≤ n * c
 place_within c n k place =
-    let low = from_one n k place in
-    let high = up_to_number n k place in
+    let both = and_parts (leb 1 k) (leb k n) place in
+    let low = leb-true 1 k both.0 in
+    let high = leb-true k n both.1 in
     omega (arith, mul-le (k - 1 + 1) c n c (omega arith) (omega arith), add-mul (k - 1) 1 c, one-mul c)
 
--- Cells written to place k of n places are in that place, and every other place has what it had.
-module _ {X : Type 0} (c n k : ℕ) (cells memory : List X) (place : is_place n k ≡ true) (long : length cells ≡ c) (room : length memory ≡ n * c) where
-  fits : place_start c k + length cells ≤ length memory
-  fits = omega (arith, place_within c n k place)
+module _ {X : Type 0} (m : Marks) (n k : ℕ) (cells memory : List X) (place : is_place n k ≡ true) (few : n ≤ length m.filled) (long : length cells ≡ m.w * m.h) (room : length memory ≡ n * (m.w * m.h)) where
+  low : 1 ≤ k
+  low = leb-true 1 k (and_parts (leb 1 k) (leb k n) place).0
 
-  pub cells_here : cells_of c k (overwritten (place_start c k) cells memory) ≡ cells
-  cells_here = ap (λ l. take l (drop (place_start c k) (overwritten (place_start c k) cells memory))) (sym long) ∙ taken_written (place_start c k) cells memory fits
+  high : k ≤ n
+  high = leb-true k n (and_parts (leb 1 k) (leb k n) place).1
 
-  pub cells_elsewhere : (j : ℕ) → is_place n j ≡ true → j ≢ k → cells_of c j (overwritten (place_start c k) cells memory) ≡ cells_of c j memory
-  cells_elsewhere j at other =
-      let apart = places_apart c j k (from_one n j at) (from_one n k place) other in
-      let ends = place_within c n j at in
-      taken_apart (place_start c k) cells memory fits c (place_start c j) (rw long apart) (omega arith)
-
--- Place k of n places has its flag set and holds something new, and the others hold what they held.
-module _ {C : Type 0} (nothing : C) (m : Marks) (n k : ℕ) (held held' : ℕ → C) (new : C) (place : is_place n k ≡ true) (few : n ≤ length m.filled) where
   filled_other : (j : ℕ) → j ≢ k → (is_place n j && get_or (set m.filled (k - 1) true) (j - 1) false) ≡ (is_place n j && get_or m.filled (j - 1) false)
   filled_other j other = elim (cases_Bool (is_place n j)) [
     | inl at ↦
-        let one = from_one n j at in
-        let two = from_one n k place in
+        let one = leb-true 1 j (and_parts (leb 1 j) (leb j n) at).0 in
+        let two = low in
         let apart : j - 1 ≢ k - 1 = omega arith in
         ap (λ b. is_place n j && b) (get_or-set_other m.filled (k - 1) (j - 1) true false apart)
     | inr off ↦ rw off refl
@@ -75,33 +60,46 @@ module _ {C : Type 0} (nothing : C) (m : Marks) (n k : ℕ) (held held' : ℕ �
   filled_after : (j : ℕ) → (is_place n j && get_or (set m.filled (k - 1) true) (j - 1) false) ≡ cond (eqb j k) true (is_place n j && get_or m.filled (j - 1) false)
   filled_after j = elim (cases_eq j k) [
     | inl same ↦
-        let one = from_one n k place in
-        let two = up_to_number n k place in
+        let one = low in
+        let two = high in
         rw (eq-eqb j k same) (ap (λ i. is_place n i && get_or (set m.filled (k - 1) true) (i - 1) false) same ∙ rw (place, get_or-set_same m.filled (k - 1) true false (omega arith)) refl)
     | inr other ↦ rw (ne_eqb j k other) (filled_other j other)
   ]
 
-  module _ (here : held' k ≡ new) (elsewhere : (j : ℕ) → is_place n j ≡ true → j ≢ k → held' j ≡ held j) where
-    content_after : (j : ℕ) → cond (is_place n j && get_or (set m.filled (k - 1) true) (j - 1) false) (held' j) nothing
-        ≡ cond (eqb j k) new (cond (is_place n j && get_or m.filled (j - 1) false) (held j) nothing)
-    content_after j = elim (cases_eq j k) [
-      | inl same ↦ rw (filled_after j, eq-eqb j k same) (ap held' same ∙ here)
-      | inr other ↦
-          rw (filled_other j other, ne_eqb j k other)
-          (elim (cases_Bool (is_place n j)) [
-            | inl at ↦ ap (λ c. cond (is_place n j && get_or m.filled (j - 1) false) c nothing) (elsewhere j at other)
-            | inr off ↦ rw off refl
-          ])
-    ]
+  content_after : (j : ℕ) → cond (is_place n j && get_or (set m.filled (k - 1) true) (j - 1) false) (cells_of (m.w * m.h) j (overwritten (place_start (m.w * m.h) k) cells memory)) []
+      ≡ cond (eqb j k) cells (cond (is_place n j && get_or m.filled (j - 1) false) (cells_of (m.w * m.h) j memory) [])
+  content_after j =
+      let c = m.w * m.h in
+      let fits : place_start c k + length cells ≤ length memory = omega (arith, place_within c n k place) in
+      elim (cases_eq j k) [
+        | inl same ↦
+            rw (filled_after j, eq-eqb j k same)
+            (ap (λ i. cells_of c i (overwritten (place_start c k) cells memory)) same
+            ∙ ap (λ l. take l (drop (place_start c k) (overwritten (place_start c k) cells memory))) (sym long)
+            ∙ taken_written (place_start c k) cells memory fits)
+        | inr other ↦
+            rw (filled_other j other, ne_eqb j k other)
+            (elim (cases_Bool (is_place n j)) [
+              | inl at ↦
+                  let one = leb-true 1 j (and_parts (leb 1 j) (leb j n) at).0 in
+                  let apart = places_apart c j k one low other in
+                  let ends = place_within c n j at in
+                  ap (λ xs. cond (is_place n j && get_or m.filled (j - 1) false) xs [])
+                  (taken_apart (place_start c k) cells memory fits c (place_start c j) (rw long apart) (omega arith))
+              | inr off ↦ rw off refl
+            ])
+      ]
 
-    pub stored_state : (after : Marks) → after.w ≡ m.w → after.h ≡ m.h → after.visit ≡ m.visit → after.filled ≡ set m.filled (k - 1) true →
-        state_of nothing after n held' ≡ stored (state_of nothing m n held) k new
-    stored_state after ew eh ev ef =
-        (λ i. record {
-          outline = record { w = ew i; h = eh i; places = n; visit = ev i; filled = λ j. is_place n j && get_or (ef i) (j - 1) false };
-          content = λ j. cond (is_place n j && get_or (ef i) (j - 1) false) (held' j) nothing;
-        })
-        ∙ (λ i. record {
-          outline = record { w = m.w; h = m.h; places = n; visit = m.visit; filled = λ j. filled_after j i };
-          content = λ j. content_after j i;
-        })
+  -- the state with the place's flag set and its cells written
+  pub stored_state : (after : Marks) → after.w ≡ m.w → after.h ≡ m.h → after.visit ≡ m.visit → after.filled ≡ set m.filled (k - 1) true →
+      state_of after n (overwritten (place_start (m.w * m.h) k) cells memory) ≡ stored (state_of m n memory) k cells
+  stored_state after ew eh ev ef =
+      let written = overwritten (place_start (m.w * m.h) k) cells memory in
+      (λ i. record {
+        outline = record { w = ew i; h = eh i; places = n; visit = ev i; filled = λ j. is_place n j && get_or (ef i) (j - 1) false };
+        content = λ j. cond (is_place n j && get_or (ef i) (j - 1) false) (cells_of (ew i * eh i) j written) [];
+      })
+      ∙ (λ i. record {
+        outline = record { w = m.w; h = m.h; places = n; visit = m.visit; filled = λ j. filled_after j i };
+        content = λ j. content_after j i;
+      })

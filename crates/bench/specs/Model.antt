@@ -1,5 +1,5 @@
 -- The state of a rack or a slate, as its users know it. Assumes nothing.
-use Rattle.std.specs.Prelude.{ℕ, ◌+◌, ◌-◌, ◌*◌, Bool, false, cond, ◌&&◌, List, [], ◌++◌, map, length, take, drop, ℤ, Option, ◌==◌, nat_le, slice_index, slice_index_or}
+use Rattle.std.specs.Prelude.{ℕ, ◌+◌, ◌-◌, ◌*◌, Bool, false, cond, ◌&&◌, List, [], ◌++◌, map, length, take, drop, ℤ, Option, ◌==◌, nat_le, slice_index_or}
 use Rattle.bench.specs.declared.marks.Marks.{Marks}
 use Rattle.bench.specs.declared.rack.Rack.{Rack}
 use Rattle.bench.specs.declared.slate.Slate.{Slate}
@@ -13,22 +13,11 @@ pub record Outline : Type 0 where
   pub visit : Option ℕ
   pub filled : ℕ → Bool
 
--- The outline and what each place holds: for a rack a sheet of heights, for a slate a tally.
-pub record State (C : Type 0) : Type 0 where
+-- The outline and what each place holds: for a rack a sheet of heights, for a slate the cells of a tally, and nothing
+-- where the place is empty.
+pub record State (X : Type 0) : Type 0 where
   pub outline : Outline
-  pub content : ℕ → C
-
--- A tally: a signed number for each cell, and a weight.
-pub record Tally : Type 0 where
-  pub cells : List ℤ
-  pub weight : ℕ
-
--- what an empty place counts as: a sheet and a tally without cells
-abbrev pub no_sheet : List ℕ
-no_sheet = []
-
-abbrev pub no_tally : Tally
-no_tally = record { cells = []; weight = 0 }
+  pub content : ℕ → List X
 
 -- whether k is one of that many places, counted from 1
 abbrev pub is_place : ℕ → ℕ → Bool
@@ -55,11 +44,11 @@ outline_of m places = record {
   filled = λ k. is_place places k && slice_index_or m.filled (k - 1) false;
 }
 
--- the state that marks stand for, with that many places: what is held in each filled place, and nothing in the others
-abbrev pub state_of : {C : Type 0} → C → Marks → ℕ → (ℕ → C) → State C
-state_of nothing m places held = record {
+-- the state that marks and memory stand for, with that many places
+abbrev pub state_of : {X : Type 0} → Marks → ℕ → List X → State X
+state_of m places memory = record {
   outline = outline_of m places;
-  content = λ k. cond ((outline_of m places).filled k) (held k) nothing;
+  content = λ k. cond ((outline_of m places).filled k) (cells_of (m.w * m.h) k memory) [];
 }
 
 -- How many places there are in memory of `sheets` cells with working planes of `planes` cells; a rack has two such
@@ -74,16 +63,9 @@ rack_outline r = outline_of r.marks (places_in_lem r.marks 2 (length r.sheets.no
 abbrev pub slate_outline : Slate → Outline
 slate_outline s = outline_of s.marks (places_in_lem s.marks 0 (length s.tallies.now) 0)
 
--- the sheet in place k of memory of heights, and the tally in place k of memory of numbers, with its weight
-abbrev pub sheet_in : Marks → List ℕ → ℕ → List ℕ
-sheet_in m heights k = cells_of (m.w * m.h) k heights
-
-abbrev pub tally_in : Marks → List ℤ → List ℕ → ℕ → Tally
-tally_in m numbers weights k = record { cells = cells_of (m.w * m.h) k numbers; weight = slice_index weights (k - 1) }
-
 -- the state of a rack whose levels have these heights, and of a slate
-abbrev pub rack_state : {L : Type 0} → (L → ℕ) → Rack L → State (List ℕ)
-rack_state height r = state_of no_sheet r.marks (rack_outline r).places (sheet_in r.marks (map height r.sheets.now))
+abbrev pub rack_state : {L : Type 0} → (L → ℕ) → Rack L → State ℕ
+rack_state height r = state_of r.marks (rack_outline r).places (map height r.sheets.now)
 
-abbrev pub slate_state : Slate → State Tally
-slate_state s = state_of no_tally s.marks (slate_outline s).places (tally_in s.marks s.tallies.now s.weights)
+abbrev pub slate_state : Slate → State ℤ
+slate_state s = state_of s.marks (slate_outline s).places s.tallies.now

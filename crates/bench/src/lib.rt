@@ -7,7 +7,6 @@ mod rack;
 mod sheets;
 mod slate;
 mod slip;
-mod tallies;
 mod visit;
 
 pub use rack::Rack;

@@ -1,7 +1,7 @@
 // The rack: sheets of one level kind in lent memory.
 ghost use Rattle.std.specs.Prelude.{◌≡◌, ◌++◌, length};
 ghost use Rattle.bench.specs.Calls.{as_opened};
-ghost use Rattle.bench.specs.Model.{no_sheet, rack_state};
+ghost use Rattle.bench.specs.Model.{rack_state};
 
 use crate::fresh::opened_marks;
 use crate::marks::Marks;
@@ -20,7 +20,7 @@ impl<'a, L: Level> Rack<'a, 'a, L> {
     /// Opens a rack: every place is empty, no visit is open and the memory is as it was.
     /// Wrong sizes, which `check_rack` refuses, open it with sides 0 and no places.
     pub fn open(memory: &'a mut [L], w: usize, h: usize, places: usize) -> Rack<'a, 'a, L>
-        ensures state { rack_state height result ≡ as_opened no_sheet 2 w h places (length memory.old) }
+        ensures state { rack_state height result ≡ as_opened 2 w h places (length memory.old) }
         ensures memory { result.sheets.now ++ result.planes.now ≡ memory.old }
     {
         let marks = opened_marks(2, w, h, places, memory.len());

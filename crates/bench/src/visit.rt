@@ -2,7 +2,7 @@
 ghost use Rattle.std.specs.Prelude.{◌≡◌, map, length, replicate, pos, Some, None, MatchResult};
 ghost use Rattle.bench.specs.Calls.{begin_refusal, end_refusal, ended, visited};
 ghost use Rattle.limits.specs.Faults.{unless};
-ghost use Rattle.bench.specs.Model.{no_sheet, no_tally, rack_outline, rack_state, slate_outline, slate_state};
+ghost use Rattle.bench.specs.Model.{rack_outline, rack_state, slate_outline, slate_state};
 
 use crate::planes::fill;
 use crate::rack::Rack;
@@ -27,7 +27,6 @@ pub fn begin<L: Level>(
     ensures sheets { rack.new.sheets.now ≡ rack.old.sheets.now }
     ensures planes { rack.new.planes.now ≡ rack.old.planes.now }
     ensures tallies { slate.new.tallies.now ≡ slate.old.tallies.now }
-    ensures weights { slate.new.weights ≡ slate.old.weights }
 {
     rack.marks.refuse_begin(&slate.marks, flat)?;
     rack.marks = rack.marks.with_visit(flat);
@@ -47,17 +46,15 @@ pub fn end<L: Level>(
     ensures answers { MatchResult result
         (λ _. end_refusal (rack_outline rack.old) (slate_outline slate.old) slip.flat ≡ None)
         (λ e. (end_refusal (rack_outline rack.old) (slate_outline slate.old) slip.flat ≡ Some e.fault) × (e.slip ≡ slip)) }
-    ensures rack_steps { rack_state height rack.new ≡ unless (end_refusal (rack_outline rack.old) (slate_outline slate.old) slip.flat) (ended no_sheet (rack_state height rack.old)) (rack_state height rack.old) }
-    ensures slate_steps { slate_state slate.new ≡ unless (end_refusal (rack_outline rack.old) (slate_outline slate.old) slip.flat) (ended no_tally (slate_state slate.old)) (slate_state slate.old) }
+    ensures rack_steps { rack_state height rack.new ≡ unless (end_refusal (rack_outline rack.old) (slate_outline slate.old) slip.flat) (ended (rack_state height rack.old)) (rack_state height rack.old) }
+    ensures slate_steps { slate_state slate.new ≡ unless (end_refusal (rack_outline rack.old) (slate_outline slate.old) slip.flat) (ended (slate_state slate.old)) (slate_state slate.old) }
     ensures memory { MatchResult result
         (λ _. (map height rack.new.sheets.now ≡ replicate (length rack.old.sheets.now) 0)
         × (map height rack.new.planes.now ≡ replicate (length rack.old.planes.now) 0)
-        × (slate.new.tallies.now ≡ replicate (length slate.old.tallies.now) (pos 0))
-        × (slate.new.weights ≡ replicate 12 0))
+        × (slate.new.tallies.now ≡ replicate (length slate.old.tallies.now) (pos 0)))
         (λ _. (rack.new.sheets.now ≡ rack.old.sheets.now)
         × (rack.new.planes.now ≡ rack.old.planes.now)
-        × (slate.new.tallies.now ≡ slate.old.tallies.now)
-        × (slate.new.weights ≡ slate.old.weights)) }
+        × (slate.new.tallies.now ≡ slate.old.tallies.now)) }
 {
     match rack.marks.refuse_end(&slate.marks, slip.flat) {
         Err(fault) => return Err(EndRefused { slip, fault }),
@@ -68,7 +65,6 @@ pub fn end<L: Level>(
     fill(slate.tallies, 0);
     rack.marks = rack.marks.cleared();
     slate.marks = slate.marks.cleared();
-    slate.weights = [0; 12];
     slip.flat = 0;
     Ok(())
 }

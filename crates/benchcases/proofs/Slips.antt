@@ -10,18 +10,18 @@ use Rattle.limits.specs.Sizes.{sizes_refusal}
 use Rattle.benchcases.specs.Visits.{Holds, shared}
 
 -- whatever its sizes, a bench opens with no visit
-unless_free : {C : Type 0} (nothing : C) (o : Option Fault) (w h places : ℕ) → (unless o (opened nothing w h places) (opened nothing 0 0 0)).outline.visit ≡ None
-unless_free nothing None w h places = refl
-unless_free nothing (Some fault) w h places = refl
+unless_free : (X : Type 0) (o : Option Fault) (w h places : ℕ) → (unless {S = State X} o (opened w h places) (opened 0 0 0)).outline.visit ≡ None
+unless_free X None w h places = refl
+unless_free X (Some fault) w h places = refl
 
-pub opened_free : {C : Type 0} (nothing : C) (working w h places len : ℕ) (s : State C) → s ≡ as_opened nothing working w h places len → s.outline.visit ≡ None
-opened_free nothing working w h places len s is = ap (λ t. t.outline.visit) is ∙ unless_free nothing (sizes_refusal working w h places len) w h places
+pub opened_free : {X : Type 0} (working w h places len : ℕ) (s : State X) → s ≡ as_opened working w h places len → s.outline.visit ≡ None
+opened_free {X} working w h places len s is = ap (λ t. t.outline.visit) is ∙ unless_free X (sizes_refusal working w h places len) w h places
 
 pub free_holds : (rack slate : Outline) → rack.visit ≡ None → slate.visit ≡ None → Holds None rack slate
 free_holds rack slate r s = record { on_rack = r; on_slate = s; same = λ some. absurd (let z : ◌≡◌ {A = ℕ} 0 1 = cc in omega arith) }
 
 -- a call that fills a place keeps the visit and the sides
-pub stored-shared : (o : Option Fault) (s after : State (List ℕ)) (k : ℕ) (cells : List ℕ) → after ≡ unless o (stored s k cells) s → shared after.outline ≡ shared s.outline
+pub stored-shared : (o : Option Fault) (s after : State ℕ) (k : ℕ) (cells : List ℕ) → after ≡ unless o (stored s k cells) s → shared after.outline ≡ shared s.outline
 stored-shared None s after k cells is = ap (λ t. shared t.outline) is
 stored-shared (Some f) s after k cells is = ap (λ t. shared t.outline) is
 

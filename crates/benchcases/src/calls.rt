@@ -3,107 +3,91 @@ ghost use Rattle.std.specs.Prelude.{◌≡◌, None};
 ghost use Rattle.bench.specs.Model.{rack_outline, slate_outline};
 ghost use Rattle.benchcases.specs.Visits.{Holds, shared};
 
-use crate::readouts::{show_area, show_levels, show_mask, show_numbers, show_span};
-use crate::show::{show, show_plain};
+use crate::show::show;
 use crate::visits::{begin_visit, end_visit};
 use bench::{Rack, Slate, Slip};
-use calls::{dilate, erode, join, meet};
 use elements::Element;
 use levels::level::Level;
 use limits::Fault;
 use std::io;
 
-// A call on a bench. A load takes the first `len` levels of a picture; a list to be written has `len` cells.
+// A call on a bench; a load takes the first `len` levels of a picture.
 #[derive(Clone, Copy)]
 pub(crate) enum Call {
     Begin(u16),
-    Load {
-        place: usize,
-        len: usize,
-    },
-    Erode {
-        from: usize,
-        to: usize,
-    },
-    Dilate {
-        from: usize,
-        to: usize,
-    },
-    Meet {
-        one: usize,
-        other: usize,
-        to: usize,
-    },
-    Join {
-        one: usize,
-        other: usize,
-        to: usize,
-    },
+    Load { place: usize, len: usize },
+    Erode { from: usize, to: usize },
+    Dilate { from: usize, to: usize },
     Area(usize),
-    Span(usize),
-    Show {
-        place: usize,
-        len: usize,
-    },
-    ShowTally {
-        place: usize,
-        len: usize,
-    },
-    Cut {
-        place: usize,
-        height: u32,
-        len: usize,
-    },
     End,
 }
 
-// Makes a call that makes or loads a sheet.
-fn make_sheet<L: Level>(
-    call: Call,
-    element: &Element,
+// The answer of a call that tells nothing.
+fn plain(answer: Result<(), Fault>) -> Result<Option<u64>, Fault> {
+    answer?;
+    Ok(None)
+}
+
+// Loads the first levels of a picture, or all.
+fn load<L: Level>(
+    place: usize,
+    len: usize,
     picture: &[L],
     rack: &mut Rack<'_, '_, L>,
 ) -> Result<(), Fault>
     ensures { shared (rack_outline rack.new) ≡ shared (rack_outline rack.old) }
 {
-    match call {
-        Call::Load { place, len } => rack.load(place, &picture[0..len.min(picture.len())]),
-        Call::Erode { from, to } => erode(rack, element, from, to),
-        Call::Dilate { from, to } => dilate(rack, element, from, to),
-        Call::Meet { one, other, to } => meet(rack, one, other, to),
-        Call::Join { one, other, to } => join(rack, one, other, to),
-        _ => Ok(()),
-    }
+    rack.load(place, &picture[0..len.min(picture.len())])
 }
 
-// Makes a call, prints its answer, and hands back the slip that is then at hand.
+// Erodes a sheet.
+fn erode<L: Level>(
+    from: usize,
+    to: usize,
+    element: &Element,
+    rack: &mut Rack<'_, '_, L>,
+) -> Result<(), Fault>
+    ensures { shared (rack_outline rack.new) ≡ shared (rack_outline rack.old) }
+{
+    rack.erode(element, from, to)
+}
+
+// Dilates a sheet.
+fn dilate<L: Level>(
+    from: usize,
+    to: usize,
+    element: &Element,
+    rack: &mut Rack<'_, '_, L>,
+) -> Result<(), Fault>
+    ensures { shared (rack_outline rack.new) ≡ shared (rack_outline rack.old) }
+{
+    rack.dilate(element, from, to)
+}
+
+// Tells the area of a sheet.
+fn area<L: Level>(place: usize, rack: &Rack<'_, '_, L>) -> Result<Option<u64>, Fault> {
+    Ok(Some(rack.area(place)?))
+}
+
+// Makes a call, and hands back the slip that is then at hand and the answer.
 fn make<L: Level>(
-    rt: &HostRuntime,
     call: Call,
     element: &Element,
     picture: &[L],
     rack: &mut Rack<'_, '_, L>,
     slate: &mut Slate<'_>,
     slip: Option<Slip>,
-) -> (Option<Slip>, io::Result<()>)
+) -> (Option<Slip>, Result<Option<u64>, Fault>)
     requires { Holds slip (rack_outline rack.old) (slate_outline slate.old) }
     ensures { Holds result.0 (rack_outline rack.new) (slate_outline slate.new) }
 {
     match call {
-        Call::Begin(flat) => {
-            let (held, answer) = begin_visit(flat, rack, slate, slip);
-            (held, show(rt, answer))
-        }
-        Call::End => (None, show(rt, end_visit(rack, slate, slip))),
-        Call::Area(place) => (slip, show_area(rt, rack, place)),
-        Call::Span(place) => (slip, show_span(rt, rack, place)),
-        Call::Show { place, len } => (slip, show_levels(rt, rack, place, len)),
-        Call::ShowTally { place, len } => (slip, show_numbers(rt, slate, place, len)),
-        Call::Cut { place, height, len } => (slip, show_mask(rt, rack, place, height, len)),
-        _ => (
-            slip,
-            show_plain(rt, make_sheet(call, element, picture, rack)),
-        ),
+        Call::Begin(flat) => begin_visit(flat, rack, slate, slip),
+        Call::Load { place, len } => (slip, plain(load(place, len, picture, rack))),
+        Call::Erode { from, to } => (slip, plain(erode(from, to, element, rack))),
+        Call::Dilate { from, to } => (slip, plain(dilate(from, to, element, rack))),
+        Call::Area(place) => (slip, area(place, rack)),
+        Call::End => (None, end_visit(rack, slate, slip)),
     }
 }
 
@@ -121,10 +105,10 @@ fn make_all<L: Level>(
     let mut printed = Ok(());
     let mut slip = None;
     for call in calls {
-        let (held, shown) = make(rt, *call, element, picture, rack, slate, slip);
+        let (held, answer) = make(*call, element, picture, rack, slate, slip);
         slip = held;
         if printed.is_ok() {
-            printed = shown;
+            printed = show(rt, answer);
         }
     }
     let _ = end_visit(rack, slate, slip);

@@ -2,7 +2,6 @@
 mod calls;
 mod crossing;
 mod memory;
-mod readouts;
 mod sequences;
 mod sheets;
 mod show;

@@ -1,10 +1,30 @@
 // Erosion and dilation as calls on lists of levels.
 use crate::memory::filled;
-use crate::show::show_sheet;
 use elements::Element;
 use levels::level::Level;
+use limits::Fault;
 use morphology::{dilate, erode};
 use std::io;
+
+// Prints the answer of a call, and the heights that it left.
+fn show_sheet<L: Level>(
+    rt: &HostRuntime,
+    answer: Result<(), Fault>,
+    sheet: &[L],
+) -> io::Result<()> {
+    match answer {
+        Ok(()) => rt.print("=")?,
+        Err(fault) => {
+            let number = fault.number();
+            print!(rt; "! {number}")?
+        }
+    }
+    for level in sheet {
+        let height = level.height();
+        print!(rt; " {height}")?;
+    }
+    rt.println("")
+}
 
 // Erodes and dilates a sheet of w × h levels to a list of five levels that were highest.
 fn operate<L: Level>(

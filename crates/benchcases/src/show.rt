@@ -1,5 +1,4 @@
 // The printed line of an answer.
-use levels::level::Level;
 use limits::Fault;
 use std::io;
 
@@ -13,32 +12,4 @@ pub(crate) fn show(rt: &HostRuntime, answer: Result<Option<u64>, Fault>) -> io::
             println!(rt; "! {number}")
         }
     }
-}
-
-// Prints the answer of a call that tells nothing.
-pub(crate) fn show_plain(rt: &HostRuntime, answer: Result<(), Fault>) -> io::Result<()> {
-    match answer {
-        Ok(()) => show(rt, Ok(None)),
-        Err(fault) => show(rt, Err(fault)),
-    }
-}
-
-// Prints the answer of a call, and the heights that it left in a list.
-pub(crate) fn show_sheet<L: Level>(
-    rt: &HostRuntime,
-    answer: Result<(), Fault>,
-    sheet: &[L],
-) -> io::Result<()> {
-    match answer {
-        Ok(()) => rt.print("=")?,
-        Err(fault) => {
-            let number = fault.number();
-            print!(rt; "! {number}")?
-        }
-    }
-    for level in sheet {
-        let height = level.height();
-        print!(rt; " {height}")?;
-    }
-    rt.println("")
 }

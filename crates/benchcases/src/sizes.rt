@@ -1,6 +1,6 @@
 // The sizes of racks and slates, at the ends of their ranges.
-use crate::show::show_plain;
-use limits::{check_rack, check_slate};
+use crate::show::show;
+use limits::{Fault, check_rack, check_slate};
 use std::io;
 
 // Width, height, number of places and length of the memory.
@@ -48,15 +48,23 @@ const SLATES: [Sizes; 16] = [
     (1, 1, 13, 7),
 ];
 
+// Prints whether sizes are refused.
+fn show_check(rt: &HostRuntime, checked: Result<(), Fault>) -> io::Result<()> {
+    match checked {
+        Ok(()) => show(rt, Ok(None)),
+        Err(fault) => show(rt, Err(fault)),
+    }
+}
+
 /// Prints which sizes make a rack and which make a slate.
 pub(crate) fn check_sizes(rt: &HostRuntime) -> io::Result<()> {
     rt.println("# sizes of racks")?;
     for (w, h, places, len) in RACKS {
-        show_plain(rt, check_rack(w, h, places, len))?;
+        show_check(rt, check_rack(w, h, places, len))?;
     }
     rt.println("# sizes of slates")?;
     for (w, h, places, len) in SLATES {
-        show_plain(rt, check_slate(w, h, places, len))?;
+        show_check(rt, check_slate(w, h, places, len))?;
     }
     Ok(())
 }

@@ -19,7 +19,7 @@ end_not_refused slip r s fault holds refused =
     let z : ◌≡◌ {A = ℕ} 0 1 = cc in omega arith
 
 -- a call that fills a place keeps the sides and the visit
-pub stored_keeps : (o : Option Fault) (s after : State (List ℕ)) (k : ℕ) (cells : List ℕ) → after ≡ unless o (stored s k cells) s → Keeps s.outline after.outline
+pub stored_keeps : (o : Option Fault) (s after : State ℕ) (k : ℕ) (cells : List ℕ) → after ≡ unless o (stored s k cells) s → Keeps s.outline after.outline
 stored_keeps None s after k cells is = record { visit = ap (λ t. t.outline.visit) is; w = ap (λ t. t.outline.w) is; h = ap (λ t. t.outline.h) is }
 stored_keeps (Some f) s after k cells is = record { visit = ap (λ t. t.outline.visit) is; w = ap (λ t. t.outline.w) is; h = ap (λ t. t.outline.h) is }
 

@@ -1,7 +1,7 @@
 -- What each command of a job asks of the bench: what it is refused, what it tells and what it leaves. Assumes nothing.
 use Rattle.std.specs.Prelude.{ℕ, List, length, ℤ, Some, None, Ok, Err, Option, Result}
 use Rattle.std.specs.Option.{unwrap_or}
-use Rattle.morphology.specs.Cells.{area}
+use Rattle.morphology.specs.Sheets.{area}
 use Rattle.morphology.specs.declared.operation.Operation.TheVariants.{Erosion, Dilation}
 use Rattle.commands.specs.declared.Command.{Command}
 use Rattle.commands.specs.declared.Command.TheVariants.{Begin, Load, Erode, Dilate, Area, End}
@@ -12,17 +12,16 @@ use Rattle.levels.specs.Gray.{gray_height}
 use Rattle.limits.specs.declared.fault.Fault.{Fault}
 use Rattle.bench.specs.declared.rack.Rack.{Rack}
 use Rattle.bench.specs.declared.slate.Slate.{Slate}
-use Rattle.bench.specs.Model.{State, Tally, no_sheet, no_tally, rack_state, slate_state}
-use Rattle.bench.specs.Calls.{begin_refusal, end_refusal, ended, load_refusal, load_leaves, make_refusal, sheet_refusal, visited}
-use Rattle.calls.specs.Made.{operate_leaves}
+use Rattle.bench.specs.Model.{State, rack_state, slate_state}
+use Rattle.bench.specs.Calls.{begin_refusal, end_refusal, ended, load_refusal, load_leaves, operate_leaves, transform_refusal, visited}
 use Rattle.limits.specs.Faults.{unless}
 use Rattle.faults.specs.declared.JobFault.{JobFault}
 use Rattle.faults.specs.declared.JobFault.TheVariants.{Bench, Line}
 
 -- the bench of a job: its rack and its slate
 pub record Benches : Type 0 where
-  pub rack : State (List ℕ)
-  pub slate : State Tally
+  pub rack : State ℕ
+  pub slate : State ℤ
 
 -- the bench of a rack and a slate
 abbrev pub benches : Rack Gray → Slate → Benches
@@ -32,9 +31,9 @@ benches rack slate = record { rack = rack_state gray_height rack; slate = slate_
 abbrev pub command_refusal : List ℕ → Benches → Command → Option Fault
 command_refusal picture b (Begin flat) = begin_refusal b.rack.outline b.slate.outline flat
 command_refusal picture b (Load place) = load_refusal b.rack.outline place (length picture)
-command_refusal picture b (Erode from to) = make_refusal b.rack.outline from from to
-command_refusal picture b (Dilate from to) = make_refusal b.rack.outline from from to
-command_refusal picture b (Area place) = sheet_refusal b.rack.outline place
+command_refusal picture b (Erode from to) = transform_refusal b.rack.outline from to
+command_refusal picture b (Dilate from to) = transform_refusal b.rack.outline from to
+command_refusal picture b (Area place) = transform_refusal b.rack.outline place place
 command_refusal picture b End = end_refusal b.rack.outline b.slate.outline (unwrap_or b.rack.outline.visit 0)
 
 -- the number that an accepted command tells, if it tells one
@@ -65,7 +64,7 @@ command_leaves offsets picture b (Dilate from to) = record { rack = operate_leav
 command_leaves offsets picture b (Area place) = b
 command_leaves offsets picture b End =
     let refused = end_refusal b.rack.outline b.slate.outline (unwrap_or b.rack.outline.visit 0) in
-    record { rack = unless refused (ended no_sheet b.rack) b.rack; slate = unless refused (ended no_tally b.slate) b.slate }
+    record { rack = unless refused (ended b.rack) b.rack; slate = unless refused (ended b.slate) b.slate }
 
 -- the answer to a line, and the bench after it: a line that is no command is refused and leaves the bench as it is
 abbrev pub answer_to : List ℕ → Benches → Result Command LineFault → Result (Option ℕ) JobFault

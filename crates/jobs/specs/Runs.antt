@@ -8,7 +8,6 @@ use Rattle.pictures.specs.declared.PictureFault.{PictureFault}
 use Rattle.pictures.specs.Reading.{read}
 use Rattle.limits.specs.declared.fault.Fault.TheVariants.{Side}
 use Rattle.bench.specs.Calls.{opened}
-use Rattle.bench.specs.Model.{no_sheet, no_tally}
 use Rattle.faults.specs.declared.JobFault.{JobFault}
 use Rattle.faults.specs.declared.JobFault.TheVariants as job
 use Rattle.jobs.specs.Answers.{answer_line_lem}
@@ -39,7 +38,7 @@ prepared card file = with_card (card_flags card) file
 
 -- the bench of a job as it opens: four sheet places and one tally
 abbrev pub opened_bench : ℕ → ℕ → Benches
-opened_bench w h = record { rack = opened no_sheet w h 4; slate = opened no_tally w h 1 }
+opened_bench w h = record { rack = opened w h 4; slate = opened w h 1 }
 
 -- what is printed: for each line its answer, or the fault of card, picture or sides alone, with line 0
 abbrev pub printed_for : Result (List Bool × Picture) JobFault → List ℕ → List ℕ → List ℕ

@@ -1,13 +1,12 @@
 // One job line: the command on it, and what it asks of the bench.
 ghost use Rattle.std.specs.Prelude.{◌≡◌, map, length, Some, None};
-ghost use Rattle.bench.specs.Calls.{load_refusal, load_leaves, make_refusal, sheet_refusal};
+ghost use Rattle.bench.specs.Calls.{load_refusal, load_leaves, operate_leaves, transform_refusal};
 ghost use Rattle.bench.specs.Model.{rack_outline, rack_state, slate_outline};
-ghost use Rattle.calls.specs.Made.{operate_leaves};
 ghost use Rattle.elements.specs.Elements.{offsets};
 ghost use Rattle.jobs.specs.Commands.{answered, benches, command_answer, command_leaves, line_answer, line_leaves};
 ghost use Rattle.jobs.specs.Visits.{Holds, Keeps};
 ghost use Rattle.levels.specs.Gray.{gray_height};
-ghost use Rattle.morphology.specs.Cells.{area as sheet_area};
+ghost use Rattle.morphology.specs.Sheets.{area as sheet_area};
 ghost use Rattle.morphology.specs.declared.operation.Operation.TheVariants.{Erosion, Dilation};
 
 use crate::visits::{begin_visit, end_visit};
@@ -38,11 +37,11 @@ fn erode(
     element: &Element,
     rack: &mut Rack<'_, '_, Gray>,
 ) -> Result<Option<u64>, JobFault>
-    ensures answers { result ≡ answered (make_refusal (rack_outline rack.old) from from to) None }
+    ensures answers { result ≡ answered (transform_refusal (rack_outline rack.old) from to) None }
     ensures steps { rack_state gray_height rack.new ≡ operate_leaves Erosion (rack_state gray_height rack.old) (offsets element.now) from to }
     ensures keeps { Keeps (rack_outline rack.old) (rack_outline rack.new) }
 {
-    calls::erode(rack, element, from, to)?;
+    rack.erode(element, from, to)?;
     Ok(None)
 }
 
@@ -53,19 +52,19 @@ fn dilate(
     element: &Element,
     rack: &mut Rack<'_, '_, Gray>,
 ) -> Result<Option<u64>, JobFault>
-    ensures answers { result ≡ answered (make_refusal (rack_outline rack.old) from from to) None }
+    ensures answers { result ≡ answered (transform_refusal (rack_outline rack.old) from to) None }
     ensures steps { rack_state gray_height rack.new ≡ operate_leaves Dilation (rack_state gray_height rack.old) (offsets element.now) from to }
     ensures keeps { Keeps (rack_outline rack.old) (rack_outline rack.new) }
 {
-    calls::dilate(rack, element, from, to)?;
+    rack.dilate(element, from, to)?;
     Ok(None)
 }
 
 // Tells the area of a sheet.
 fn area(place: usize, rack: &Rack<'_, '_, Gray>) -> Result<Option<u64>, JobFault>
-    ensures { result ≡ answered (sheet_refusal (rack_outline rack.now) place) (Some (sheet_area ((rack_state gray_height rack.now).content place))) }
+    ensures { result ≡ answered (transform_refusal (rack_outline rack.now) place place) (Some (sheet_area ((rack_state gray_height rack.now).content place))) }
 {
-    let area = calls::area(rack, place)?;
+    let area = rack.area(place)?;
     Ok(Some(area))
 }
 

@@ -2,7 +2,7 @@
 ghost use Rattle.std.specs.Prelude.{◌≡◌, None};
 ghost use Rattle.bench.specs.Calls.{begin_refusal, end_refusal, ended, visited};
 ghost use Rattle.limits.specs.Faults.{unless};
-ghost use Rattle.bench.specs.Model.{no_sheet, no_tally, rack_outline, rack_state, slate_outline, slate_state};
+ghost use Rattle.bench.specs.Model.{rack_outline, rack_state, slate_outline, slate_state};
 ghost use Rattle.jobs.specs.Commands.{answered};
 ghost use Rattle.jobs.specs.Visits.{Holds};
 ghost use Rattle.levels.specs.Gray.{gray_height};
@@ -43,8 +43,8 @@ pub(crate) fn end_visit(
 ) -> Result<Option<u64>, JobFault>
     requires { Holds slip (rack_outline rack.old) (slate_outline slate.old) }
     ensures answers { result ≡ answered (end_refusal (rack_outline rack.old) (slate_outline slate.old) (unwrap_or (rack_outline rack.old).visit 0)) None }
-    ensures rack_steps { rack_state gray_height rack.new ≡ unless (end_refusal (rack_outline rack.old) (slate_outline slate.old) (unwrap_or (rack_outline rack.old).visit 0)) (ended no_sheet (rack_state gray_height rack.old)) (rack_state gray_height rack.old) }
-    ensures slate_steps { slate_state slate.new ≡ unless (end_refusal (rack_outline rack.old) (slate_outline slate.old) (unwrap_or (rack_outline rack.old).visit 0)) (ended no_tally (slate_state slate.old)) (slate_state slate.old) }
+    ensures rack_steps { rack_state gray_height rack.new ≡ unless (end_refusal (rack_outline rack.old) (slate_outline slate.old) (unwrap_or (rack_outline rack.old).visit 0)) (ended (rack_state gray_height rack.old)) (rack_state gray_height rack.old) }
+    ensures slate_steps { slate_state slate.new ≡ unless (end_refusal (rack_outline rack.old) (slate_outline slate.old) (unwrap_or (rack_outline rack.old).visit 0)) (ended (slate_state slate.old)) (slate_state slate.old) }
     ensures holds { Holds None (rack_outline rack.new) (slate_outline slate.new) }
 {
     let Some(held) = slip else {

@@ -4,4 +4,3 @@ pub mod Reach
 pub mod Extremes
 pub mod Sweeping
 pub mod Definitions
-pub mod Combining

@@ -1,4 +1,3 @@
 pub mod Sheets
 pub mod Erosion
 pub mod Passes
-pub mod Cells

@@ -1,6 +1,6 @@
 -- Sheets of heights, read by column and row. Assumes nothing.
 -- A sheet is a list of w × h heights, row by row; columns and rows count from 0.
-use Rattle.std.specs.Prelude.{ℕ, ◌+◌, ◌*◌, ◌/◌, ◌%◌, cond, ◌&&◌, List, map, ℤ, pos, negsuc, Ok, Err, Result, ◌==◌, nat_lt, slice_index}
+use Rattle.std.specs.Prelude.{ℕ, ◌+◌, ◌*◌, ◌/◌, ◌%◌, cond, ◌&&◌, List, map, ℤ, pos, negsuc, Ok, Err, fold, Result, ◌==◌, nat_lt, slice_index}
 use Rattle.std.specs.List.{range_with_len}
 use Rattle.limits.specs.declared.fault.Fault.{Fault}
 use Rattle.limits.specs.declared.fault.Fault.TheVariants.{Side, Length}
@@ -20,7 +20,11 @@ at_place w cell p = cell (p % w) (p / w)
 abbrev pub by_cells : ℕ → ℕ → (ℕ → ℕ → ℕ) → List ℕ
 by_cells w h cell = map (at_place w cell) (range_with_len 0 (w * h))
 
--- An operation on lists: both sides are lawful and every list has w × h levels, or it refuses. One that reads one sheet names it twice.
-abbrev pub sheets_answer : ℕ → ℕ → ℕ → ℕ → ℕ → Result (Unit {0}) Fault
-sheets_answer w h one other to =
-    cond (lawful_side w && lawful_side h) (cond (one == w * h && other == w * h && to == w * h) (Ok tt) (Err Length)) (Err Side)
+-- An operation from a list to another: both sides are lawful and both lists have w × h levels, or it refuses.
+abbrev pub sheets_answer : ℕ → ℕ → ℕ → ℕ → Result (Unit {0}) Fault
+sheets_answer w h from to =
+    cond (lawful_side w && lawful_side h) (cond (from == w * h && to == w * h) (Ok tt) (Err Length)) (Err Side)
+
+-- the area of a sheet is the sum of its heights
+abbrev pub area : List ℕ → ℕ
+area f = fold ◌+◌ 0 f

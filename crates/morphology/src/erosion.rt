@@ -12,27 +12,22 @@ use levels::level::Level;
 use limits::Fault;
 
 // Refuses sides and lengths that make no sheets, in the order of the refusals.
-pub(crate) fn check_sheets(
-    w: usize,
-    h: usize,
-    one: usize,
-    other: usize,
-    to: usize,
-) -> Result<(), Fault>
-    ensures answers { result ≡ sheets_answer w h one other to }
-    ensures sheets { OnOk result ((1 ≤ w) × (one ≡ w * h) × (other ≡ w * h) × (to ≡ w * h)) }
+fn check_sheets(w: usize, h: usize, from: usize, to: usize) -> Result<(), Fault>
+    ensures answers { result ≡ sheets_answer w h from to }
+    ensures sheets { OnOk result ((1 ≤ w) × (from ≡ w * h) × (to ≡ w * h)) }
 {
     if w < 1 || w > 1024 || h < 1 || h > 1024 {
         return Err(Fault::Side);
     }
-    if one != w * h || other != w * h || to != w * h {
+    if from != w * h || to != w * h {
         return Err(Fault::Length);
     }
     Ok(())
 }
 
-// Writes what an operation by an element makes of the sheet `from` of w × h levels to the list `to`, or refuses.
-pub(crate) fn operate<L: Level>(
+/// Writes what an operation by an element makes of the sheet `from` of w × h levels to the list `to`.
+/// Refuses a side that is not 1 to 1,024 (1), then a list that has not w × h levels (4), and then leaves `to` as it was.
+pub fn operate<L: Level>(
     op: Operation,
     from: &[L],
     to: &mut [L],
@@ -40,12 +35,12 @@ pub(crate) fn operate<L: Level>(
     h: usize,
     element: &Element,
 ) -> Result<(), Fault>
-    ensures answers { result ≡ sheets_answer w h (length from.now) (length from.now) (length to.old) }
+    ensures answers { result ≡ sheets_answer w h (length from.now) (length to.old) }
     ensures memory { MatchResult result
         (λ _. map height to.new ≡ operated op w h (offsets element.now) (map height from.now))
         (λ _. to.new ≡ to.old) }
 {
-    check_sheets(w, h, from.len(), from.len(), to.len())?;
+    check_sheets(w, h, from.len(), to.len())?;
     // The element has (0, 0), so every cell may start from its own level.
     to.copy_from_slice(from);
     sweep(op, from, to, w, h, element);
@@ -62,7 +57,7 @@ pub fn erode<L: Level>(
     h: usize,
     element: &Element,
 ) -> Result<(), Fault>
-    ensures answers { result ≡ sheets_answer w h (length from.now) (length from.now) (length to.old) }
+    ensures answers { result ≡ sheets_answer w h (length from.now) (length to.old) }
     ensures memory { MatchResult result
         (λ _. map height to.new ≡ eroded w h (offsets element.now) (map height from.now))
         (λ _. to.new ≡ to.old) }
@@ -80,7 +75,7 @@ pub fn dilate<L: Level>(
     h: usize,
     element: &Element,
 ) -> Result<(), Fault>
-    ensures answers { result ≡ sheets_answer w h (length from.now) (length from.now) (length to.old) }
+    ensures answers { result ≡ sheets_answer w h (length from.now) (length to.old) }
     ensures memory { MatchResult result
         (λ _. map height to.new ≡ dilated w h (offsets element.now) (map height from.now))
         (λ _. to.new ≡ to.old) }

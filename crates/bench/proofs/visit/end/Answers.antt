@@ -1,6 +1,5 @@
 use Rattle.std.proofs.Common.{map, length, replicate, refl, ap, ◌∙◌}
 use Rattle.std.proofs.lemmas.List.{length-replicate}
-use Rattle.bench.specs.Model.{no_sheet, no_tally}
 use Rattle.bench.proofs.Memory.{map-replicate}
 use Rattle.bench.proofs.Opened.{cleared_state, same_places}
 use Rattle.bench.proofs.Refusals.{accepted_leaves, refused_by, refused_by_none, refused_leaves}
@@ -13,7 +12,7 @@ returns-in-Err g c =
       answers = (refused_by _ _ refused, refl);
       rack_steps = refused_leaves _ _ _ _ refused;
       slate_steps = refused_leaves _ _ _ _ refused;
-      memory = (refl, refl, refl, refl);
+      memory = (refl, refl, refl);
     }
 
 pub returns : goal.returns
@@ -30,17 +29,16 @@ returns g c =
     record {
       answers = refused_by_none _ accepted;
       rack_steps =
-          cleared_state no_sheet rack.marks c.cleared-rack.result _ _ _ racked.w racked.h racked.visit racked.filled
+          cleared_state rack.marks c.cleared-rack.result _ _ _ racked.w racked.h racked.visit racked.filled
           (same_places rack.marks c.cleared-rack.result 2 _ _ _ _ racked.w racked.h racked.places sheets planes)
           ∙ accepted_leaves _ _ _ accepted;
       slate_steps =
-          cleared_state no_tally slate.marks c.cleared-slate.result _ _ _ slated.w slated.h slated.visit slated.filled
+          cleared_state slate.marks c.cleared-slate.result _ _ _ slated.w slated.h slated.visit slated.filled
           (same_places slate.marks c.cleared-slate.result 0 _ _ 0 0 slated.w slated.h slated.places tallies refl)
           ∙ accepted_leaves _ _ _ accepted;
       memory = (
         ap (map height) c.fill.ensures ∙ map-replicate height _ _ ∙ ap (replicate (length rack.sheets.now)) c.lowest.ensures,
         ap (map height) c.fill-2.ensures ∙ map-replicate height _ _ ∙ ap (replicate (length rack.planes.now)) c.lowest-2.ensures,
         c.fill-3.ensures,
-        refl,
       );
     }

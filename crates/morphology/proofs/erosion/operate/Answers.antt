@@ -11,5 +11,5 @@ returns g c =
     record {
       answers = search rules;
       memory = swept-operated c.args.w c.args.h f element.flags checked.0 element.centre c.args.op _
-          (length-map _ _ ∙ omega (arith, checked.3)) c.sweep.ensures;
+          (length-map _ _ ∙ omega (arith, checked.2)) c.sweep.ensures;
     }

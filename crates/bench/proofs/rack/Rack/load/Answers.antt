@@ -6,7 +6,8 @@ use Rattle.limits.specs.Faults.{told}
 use Rattle.bench.specs.Model.{overwritten, place_start, rack_state}
 use Rattle.bench.proofs.Memory.{map-overwritten}
 use Rattle.bench.proofs.Refusals.{refused_leaves, accepted_leaves, load_accepted}
-use Rattle.bench.proofs.Racked.{place_in_memory, sheet_stored}
+use Rattle.bench.proofs.Racked.{sheet_stored, sheets_long}
+use Rattle.bench.proofs.Stored.{place_within}
 use Rattle.bench.proofs.rack.Rack.load.Goals as goal
 
 pub returns-in-err-refuse-load : goal.returns-in-err-refuse-load
@@ -25,8 +26,11 @@ returns-in-err-refuse-load g c =
 pub store-requires : goal.store-requires
 store-requires g c =
     let rack = c.args.self.now in
-    let accepted = load_accepted (rack_state g.L.Level.height rack).outline c.args.place (length c.args.picture.now) (rw c.places-in-places.ensures at c.in-ok-refuse-load.ensures) in
-    rw (c.cells.ensures, accepted.0) (place_in_memory rack.marks 2 (length rack.sheets.now) (length rack.planes.now) c.args.place accepted.1)
+    let outline = (rack_state g.L.Level.height rack).outline in
+    let accepted = load_accepted outline c.args.place (length c.args.picture.now) (rw c.places-in-places.ensures at c.in-ok-refuse-load.ensures) in
+    let within = place_within (rack.marks.w * rack.marks.h) outline.places c.args.place accepted.1 in
+    let long = sheets_long rack.marks 2 (length rack.sheets.now) (length rack.planes.now) c.args.place accepted.1 in
+    rw (c.cells.ensures, accepted.0, long) within
 
 pub returns : goal.returns
 returns g c =

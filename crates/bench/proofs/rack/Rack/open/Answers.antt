@@ -1,5 +1,4 @@
 use Rattle.std.proofs.Common.{◌+◌, length, ap, ◌∙◌, rules}
-use Rattle.bench.specs.Model.{no_sheet}
 use Rattle.bench.proofs.Opened.{as_opened_state}
 use Rattle.bench.proofs.rack.Rack.open.Goals as goal
 
@@ -8,7 +7,7 @@ returns g c =
     let marks = c.opened-marks-marks.ensures in
     let cut = c.split-at-mut-sheets.ensures in
     record {
-      state = as_opened_state no_sheet c.opened-marks-marks.result 2 c.args.w c.args.h c.args.places _ _ _
+      state = as_opened_state c.opened-marks-marks.result 2 c.args.w c.args.h c.args.places _ _ _
           marks.w marks.h marks.places marks.visit marks.filled
           (marks.held _ _ cut.front-len (ap (λ n. length c.split-at-mut-sheets.result.1.now + n) cut.front-len ∙ cut.back_len));
       memory = search rules;

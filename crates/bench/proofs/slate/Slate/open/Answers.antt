@@ -1,5 +1,4 @@
 use Rattle.std.proofs.Common.{refl, rules}
-use Rattle.bench.specs.Model.{no_tally}
 use Rattle.bench.proofs.Opened.{as_opened_state}
 use Rattle.bench.proofs.slate.Slate.open.Goals as goal
 
@@ -7,8 +6,7 @@ pub returns : goal.returns
 returns c =
     let marks = c.opened-marks-marks.ensures in
     record {
-      state = as_opened_state no_tally c.opened-marks-marks.result 0 c.args.w c.args.h c.args.places _ _ _
+      state = as_opened_state c.opened-marks-marks.result 0 c.args.w c.args.h c.args.places _ _ _
           marks.w marks.h marks.places marks.visit marks.filled (marks.whole refl);
       memory = search rules;
-      weights = refl;
     }

@@ -1,9 +1,0 @@
-// The calls on the sheets and tallies of a bench: those that make a sheet, and those that tell or copy out what is there.
-mod cells;
-mod made;
-mod spot;
-mod told;
-
-pub use made::{dilate, erode, join, meet};
-pub use spot::Spot;
-pub use told::{area, cut, show_sheet, show_tally, span};

@@ -1,4 +1,6 @@
 // The program benchcases: makes calls on the bench at every level kind, and prints what each answers.
+#![tactic(auto)]
+
 mod calls;
 mod crossing;
 mod memory;

@@ -1,4 +1,6 @@
 //! The commands of a job, and how a job's line is read as one.
+#![tactic(auto)]
+
 ghost use Rattle.std.specs.Prelude.{◌≡◌, ◌≤◌, length, IfErr, MatchResult};
 ghost use Rattle.commands.specs.Reading.{command_on_lem, read, TellsArguments, ReadsBackLines, ReadsOnlyLines, RefusesLinesAtMisfit};
 

@@ -1,4 +1,6 @@
 // Structuring elements, and the reader and the writer of element cards.
+#![tactic(auto)]
+
 mod cards;
 mod element;
 mod offset;

@@ -1,4 +1,6 @@
 // The fault of a job, which carries the fault of the layer below whole.
+#![tactic(auto)]
+
 ghost use Rattle.std.specs.Prelude.{◌≡◌};
 ghost use Rattle.faults.specs.Faults.{fault_layer, job_fault_number, job_fault_place};
 ghost use Rattle.faults.specs.declared.JobFault.TheVariants.{Card, Picture, Bench, Line};

@@ -1,4 +1,6 @@
 // The program jobcases: runs the jobs of a list of cases, and prints what each tells.
+#![tactic(auto)]
+
 mod texts;
 
 use jobs::run_job;

@@ -1,4 +1,6 @@
 // Jobs: the bytes of a card, a picture and job lines in, the printed lines out.
+#![tactic(auto)]
+
 mod answers;
 mod lines;
 mod obey;

@@ -1,4 +1,6 @@
 // Level kinds: what a cell of a sheet may hold, and how high each such level is.
+#![tactic(auto)]
+
 pub mod gray;
 pub mod heat;
 pub mod level;

@@ -1,4 +1,6 @@
 // The refusals of the library, and the limits on sizes.
+#![tactic(auto)]
+
 mod fault;
 mod sizes;
 

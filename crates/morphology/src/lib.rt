@@ -1,4 +1,6 @@
 // Erosion and dilation of sheets of any level kind.
+#![tactic(auto)]
+
 mod erosion;
 mod operation;
 mod passes;

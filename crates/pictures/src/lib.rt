@@ -1,4 +1,6 @@
 //! Picture files: how the header of one is read, and what is refused.
+#![tactic(auto)]
+
 ghost use Rattle.std.specs.Prelude.{◌≡◌, ◌≤◌, [], ◌∷◌, length, IfOk, Ok, Err, MatchResult};
 ghost use Rattle.pictures.specs.Headers.{height_at_lem, picture_fault_number, picture_fault_place, Fills};
 ghost use Rattle.pictures.specs.Reading.{read, sized, ScansAs, ReadsBackPictures, ReadsOnlyPictures, RefusesWhatIsWrong};

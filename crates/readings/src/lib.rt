@@ -1,4 +1,6 @@
 // Heat readings, and the heat levels that they stand for.
+#![tactic(auto)]
+
 mod fault;
 mod lists;
 mod reading;

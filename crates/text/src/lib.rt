@@ -1,4 +1,6 @@
 //! What the readers of job lines and of picture headers share: fixed bytes and numbers in text.
+#![tactic(auto)]
+
 ghost use Rattle.std.specs.Prelude.{◌≡◌, ◌<◌, ◌≤◌, length, take};
 ghost use Rattle.std.specs.Str.Parse.{AllDigits, digits_value};
 ghost use Rattle.text.specs.Forms.{TellsFixed};

@@ -1,4 +1,6 @@
 // The program walljob: reads the two files of a job and its lines, and prints what the job tells.
+#![tactic(auto)]
+
 use jobs::run_job;
 use std::alloc::Global;
 use std::fs::File;

@@ -16,9 +16,9 @@ loop-count-preserved c =
     let i : ℕ = c.loop-count.count in
     let text : List ℕ = c.args.text.now in
     let room : 4 - i ≡ suc (4 - (i + 1)) = omega arith in
-    let more : run (4 - i) (drop i text) ≡ run (4 - (i + 1)) (drop (i + 1) text) + 1 = ap (λ (k : ℕ). run k (drop i text)) room ∙ run_more _ i text c.loop-count-test.true (sym c.if-is-ascii-digit.ensures.value) in (
+    let more : run (4 - i) (drop i text) ≡ run (4 - (i + 1)) (drop (i + 1) text) + 1 = ap (λ (k : ℕ). run k (drop i text)) room ∙ run_more _ i text c.loop-count-test.true (sym c.if-is_ascii_digit.ensures.value) in (
       omega arith,
       omega arith,
-      digits_more 10 text i c.loop-count-test.true c.loop-count.invariant.2 c.if-is-ascii-digit.ensures.bound,
+      digits_more 10 text i c.loop-count-test.true c.loop-count.invariant.2 c.if-is_ascii_digit.ensures.bound,
       omega (arith, c.loop-count.invariant.3),
     )

@@ -10,7 +10,7 @@ use Rattle.text.proofs.Numbers.{tells_number}
 use Rattle.text.proofs.number.Goals as goal
 
 answered : (least : ℕ) (bytes : List ℕ) (at : ℕ) (r : Result Numeral Misfit) → r ≡ number_at least bytes at
-    → record { answers : r ≡ number_at least bytes at; nat_tests : TellsNumber least bytes at r }
+    → record { answers : r ≡ number_at least bytes at; tells : TellsNumber least bytes at r }
 answered least bytes at r answer =
     record { answers = answer; tells = subst (TellsNumber least bytes at) (sym answer) (tells_number least bytes at) }
 
@@ -33,19 +33,19 @@ returns-then-at-bytes c =
 pub returns-then-count-eq0 : goal.returns-then-count-eq0
 unfolding number_at
 returns-then-count-eq0 c =
-    let count = counted c.args.bytes.now c.args.at _ c.count-figures-count.ensures.value in
+    let count = counted c.args.bytes.now c.args.at _ c.count_figures-count.ensures.value in
     answered c.args.least c.args.bytes.now c.args.at _ (grind (arith, nat_tests))
 
 pub returns-then-value-least : goal.returns-then-value-least
 unfolding number_at
 returns-then-value-least c =
-    let count = counted c.args.bytes.now c.args.at _ c.count-figures-count.ensures.value in
-    let read = valued c.args.bytes.now c.args.at _ _ c.count-figures-count.ensures.value c.read-digits-value.ensures in
+    let count = counted c.args.bytes.now c.args.at _ c.count_figures-count.ensures.value in
+    let read = valued c.args.bytes.now c.args.at _ _ c.count_figures-count.ensures.value c.read_digits-value.ensures in
     answered c.args.least c.args.bytes.now c.args.at _ (grind (arith, nat_tests))
 
 pub returns : goal.returns
 unfolding number_at
 returns c =
-    let count = counted c.args.bytes.now c.args.at _ c.count-figures-count.ensures.value in
-    let read = valued c.args.bytes.now c.args.at _ _ c.count-figures-count.ensures.value c.read-digits-value.ensures in
+    let count = counted c.args.bytes.now c.args.at _ c.count_figures-count.ensures.value in
+    let read = valued c.args.bytes.now c.args.at _ _ c.count_figures-count.ensures.value c.read_digits-value.ensures in
     answered c.args.least c.args.bytes.now c.args.at _ (grind (arith, nat_tests))

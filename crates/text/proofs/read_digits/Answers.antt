@@ -9,8 +9,8 @@ use Rattle.std.specs.Int.{IsInRange}
 use Rattle.std.specs.Char.{digit_value}
 use Rattle.text.proofs.read_digits.Goals as goal
 
-pub overflow-sub-digit : goal.overflow-sub-digit
-overflow-sub-digit c = (digit_at c.args.digits.now c.loop-digit.digit-index c.requires.1 c.loop-digit-test.true).0
+pub overflow_sub-digit : goal.overflow_sub-digit
+overflow_sub-digit c = (digit_at c.args.digits.now c.loop-digit.digit-index c.requires.1 c.loop-digit-test.true).0
 
 figure_value : (b : ℕ) → IsInRange 48 57 b → digit_value b ≡ b - 48
 figure_value b h = grind (arith, nat_tests)

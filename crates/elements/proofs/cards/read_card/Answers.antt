@@ -9,23 +9,23 @@ use Rattle.elements.proofs.Outcomes.{accepted_flags, end_refused_flags, record_r
 use Rattle.elements.proofs.Told.{tells_the_chain}
 use Rattle.elements.proofs.cards.read_card.Goals as goal
 
-pub returns-then-not-is-sized : goal.returns-then-not-is-sized
-returns-then-not-is-sized c =
+pub returns-then-not-is_sized : goal.returns-then-not-is_sized
+returns-then-not-is_sized c =
     let card = c.args.card.now in
-    let unsized : sized card ≡ false = sym c.if-not-is-sized.ensures in
+    let unsized : sized card ≡ false = sym c.if-not-is_sized.ensures in
     let refused = cond-false _ _ _ unsized in
     record { flags = refused; chain = tells_the_chain card (Err Length) refused }
 
 pub loop-next-init : goal.loop-next-init
-loop-next-init c = reading_starts c.args.card.now (sym c.if-not-is-sized.ensures)
+loop-next-init c = reading_starts c.args.card.now (sym c.if-not-is_sized.ensures)
 
-pub returns-in-err-next : goal.returns-in-err-next
-returns-in-err-next c =
+pub returns-in_err-next : goal.returns-in_err-next
+returns-in_err-next c =
     let card = c.args.card.now in
-    let fault = c.in-err-next.field-0.0 in
-    let p = err_from_is_err_and c.from-residual.result c.from-residual.ensures.1 in
+    let fault = c.in_err-next.field-0.0 in
+    let p = err_from_is_err_and c.from_residual.result c.from_residual.ensures.1 in
     let refused =
-    record_refused_flags card c.loop-next.number c.loop-next.flags c.loop-next.invariant fault c.in-err-next.ensures in
+    record_refused_flags card c.loop-next.number c.loop-next.flags c.loop-next.invariant fault c.in_err-next.ensures in
     rw (p.1, p.2) record { flags = refused; chain = tells_the_chain card (Err fault) refused }
 
 pub returns-then-next-eq0 : goal.returns-then-next-eq0
@@ -35,7 +35,7 @@ returns-then-next-eq0 c =
     let met = c.loop-next.flags in
     let flags = c.visit.new.flags in
     let reading = c.loop-next.invariant in
-    let visited = c.in-ok-next.ensures in
+    let visited = c.in_ok-next.ensures in
     let ends : next_of card n ≡ 0 = sym visited.1 ∙ c.if-next-eq0.true in
     let last : 3 * n ≡ record_byte n + 2 = omega arith in
     let answer = MatchResult-weaker c.finish.result c.finish.ensures
@@ -45,12 +45,12 @@ returns-then-next-eq0 c =
 
 pub loop-next-smaller : goal.loop-next-smaller
 loop-next-smaller c =
-    let visited = c.in-ok-next.ensures in
+    let visited = c.in_ok-next.ensures in
     rw visited.2 (unset_fall c.args.card.now c.loop-next.number c.loop-next.flags c.loop-next.invariant visited.0)
 
 pub loop-next-preserved : goal.loop-next-preserved
 loop-next-preserved c =
-    let visited = c.in-ok-next.ensures in
+    let visited = c.in_ok-next.ensures in
     rw (visited.1, visited.2)
     (reading_goes_on c.args.card.now c.loop-next.number c.loop-next.flags c.loop-next.invariant visited.0
     (omega (arith, visited.1, c.if-next-eq0.false)))

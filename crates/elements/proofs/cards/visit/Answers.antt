@@ -31,22 +31,22 @@ module _ (card : List ℕ) (n : ℕ) where
   near_row : far (to_z w8 (get_or (bytes_of card n) 1 0)) ≡ false → far (row_of card n) ≡ false
   near_row e = ap far (sym row_is) ∙ e
 
-pub returns-in-err-offset : goal.returns-in-err-offset
-returns-in-err-offset c =
+pub returns-in_err-offset : goal.returns-in_err-offset
+returns-in_err-offset c =
     let card = c.args.card.now in
     let n = c.args.number in
-    let p = err_from_is_err_and c.from-residual.result c.from-residual.ensures.1 in
+    let p = err_from_is_err_and c.from_residual.result c.from_residual.ensures.1 in
     rw (p.1, p.2)
-    (offset_fault card n c.args.flags.now c.in-err-offset.field-0.0
+    (offset_fault card n c.args.flags.now c.in_err-offset.field-0.0
     (sym (ap (λ z. far_fault (record_byte n) z (to_z w8 (get_or (bytes_of card n) 1 0)) None) (column_is card n)
     ∙ ap (λ z. far_fault (record_byte n) (column_of card n) z None) (row_is card n))
-    ∙ c.in-err-offset.ensures))
+    ∙ c.in_err-offset.ensures))
 
 pub returns-then-next-card : goal.returns-then-next-card
 returns-then-next-card c =
     let card = c.args.card.now in
     let n = c.args.number in
-    let near = c.in-ok-offset.ensures in
+    let near = c.in_ok-offset.ensures in
     next_fault card n c.args.flags.now (near_column card n near.2) (near_row card n near.3)
     (omega (arith, next_is card n))
 
@@ -54,7 +54,7 @@ pub returns-then-flags-index : goal.returns-then-flags-index
 returns-then-flags-index c =
     let card = c.args.card.now in
     let n = c.args.number in
-    let near = c.in-ok-offset.ensures in
+    let near = c.in_ok-offset.ensures in
     repeated_fault card n c.args.flags.now (near_column card n near.2) (near_row card n near.3)
     (omega (arith, next_is card n))
     (ap (λ k. get_or c.args.flags.now k false) (sym (place_is card n _ _ _ c.index-index.ensures.place near.0 near.1)) ∙ c.if-flags-index.true)
@@ -63,7 +63,7 @@ pub returns : goal.returns
 returns c =
     let card = c.args.card.now in
     let n = c.args.number in
-    let near = c.in-ok-offset.ensures in
+    let near = c.in_ok-offset.ensures in
     let place = place_is card n _ _ _ c.index-index.ensures.place near.0 near.1 in (
       no_fault card n c.args.flags.now (near_column card n near.2) (near_row card n near.3)
           (omega (arith, next_is card n))

@@ -14,20 +14,20 @@ loop-index-init c =
     let size = c.size-size.result in
     writing_starts c.args.element.now _ size c.size-size.ensures (get_or-set_same card 0 size 0 (omega arith)) (length-set card 0 size ∙ omega arith)
 
-pub write-record-requires : goal.write-record-requires
-write-record-requires c =
+pub write_record-requires : goal.write_record-requires
+write_record-requires c =
     let some : 1 ≤ c.loop-index.number =
     some_left _ c.loop-index.invariant c.loop-index-test.true c.loop-index.auto.index (sym c.if-holds.ensures) in
     search rules
 
-pub overflow-sub-number : goal.overflow-sub-number
-overflow-sub-number c = some_left _ c.loop-index.invariant c.loop-index-test.true c.loop-index.auto.index (sym c.if-holds.ensures)
+pub overflow_sub-number : goal.overflow_sub-number
+overflow_sub-number c = some_left _ c.loop-index.invariant c.loop-index-test.true c.loop-index.auto.index (sym c.if-holds.ensures)
 
 pub loop-index-preserved-then-holds : goal.loop-index-preserved-then-holds
 loop-index-preserved-then-holds c =
-    let written = c.write-record.ensures in
+    let written = c.write_record.ensures in
     writing_goes_on _ c.loop-index.invariant c.loop-index-test.true c.loop-index.auto.index (sym c.if-holds.ensures)
-    _ c.write-record.auto.card written.offset written.next written.others
+    _ c.write_record.auto.card written.offset written.next written.others
 
 pub loop-index-preserved : goal.loop-index-preserved
 loop-index-preserved c = passed_over _ c.loop-index.invariant c.loop-index-test.true c.loop-index.auto.index (sym c.if-holds.ensures)

@@ -25,8 +25,8 @@ pub returns : goal.returns
 returns c =
     let card = c.args.card.now in
     let from = record_byte c.args.number in
-    let column = c.side-byte.result in
-    let row = c.side-byte-2.result in
+    let column = c.side_byte.result in
+    let row = c.side_byte-2.result in
     let next = c.args.next in
     let within : from + 2 < length card = omega arith in
     let first = first_byte card from column row next within in

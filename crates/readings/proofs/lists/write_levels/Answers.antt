@@ -9,7 +9,7 @@ use Rattle.readings.proofs.Heights.{reads_all_push}
 use Rattle.readings.proofs.lists.write_levels.Goals as goal
 
 pub unreachable-requires : goal.unreachable-requires
-unreachable-requires c = c.in-default.ensures (All-get_or Readable c.args.readings.now c.loop-index.index Dead c.loop-index-test.true c.requires.1)
+unreachable-requires c = c.in_default.ensures (All-get_or Readable c.args.readings.now c.loop-index.index Dead c.loop-index-test.true c.requires.1)
 
 pub loop-index-preserved : goal.loop-index-preserved
 loop-index-preserved c =

@@ -13,9 +13,9 @@ loop-index-preserved c =
     let level = c.index-levels-index.result in
     let within : i < length readings = omega arith in
     let told = map told_as (map heat_height (take i levels)) in
-    rw (take_more_set readings i c.of-level.result within, take_more levels i level c.loop-index-test.true, map_push, map_push)
-    (ap (λ rs. rs ++ c.of-level.result ∷ []) c.loop-index.invariant
-    ∙ ap (λ r. told ++ r ∷ []) (c.of-level.ensures ∙ ap (λ l. told_as (heat_height l)) c.index-levels-index.is))
+    rw (take_more_set readings i c.of_level.result within, take_more levels i level c.loop-index-test.true, map_push, map_push)
+    (ap (λ rs. rs ++ c.of_level.result ∷ []) c.loop-index.invariant
+    ∙ ap (λ r. told ++ r ∷ []) (c.of_level.ensures ∙ ap (λ l. told_as (heat_height l)) c.index-levels-index.is))
 
 pub returns : goal.returns
 returns c =

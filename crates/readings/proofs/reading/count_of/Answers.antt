@@ -16,8 +16,8 @@ pub returns-then-from-scaled : goal.returns-then-from-scaled
 unfolding of_bits
 returns-then-from-scaled c =
     let degrees = c.args.degrees in
-    let count = c.saturating-f32-to-i16-count.result in
-    let small = c.saturating-f32-to-i16-count.type-inv in
+    let count = c.saturating_f32_to_i16-count.result in
+    let small = c.saturating_f32_to_i16-count.type_inv in
     let same : eq (of_int binary32 count) (mul binary32 degrees sixteen) ≡ true =
     ap (λ x. eq x (mul binary32 degrees sixteen)) (sym (c.from.ensures ∙ ap (of_int binary32) (kept count small))) ∙ c.if-from-scaled.true in
     let fitting : fits binary32 degrees ≡ true = search rules in
@@ -27,7 +27,7 @@ pub returns-else-from-scaled : goal.returns-else-from-scaled
 unfolding of_bits
 returns-else-from-scaled c d h =
     let scaled = mul binary32 c.args.degrees sixteen in
-    let found = c.saturating-f32-to-i16-count in
+    let found = c.saturating_f32_to_i16-count in
     let p = count_passes c.args.degrees d h in
     both_ways (eq c.from.result scaled) c.if-from-scaled.false
-    (ap (λ x. eq x scaled) (c.from.ensures ∙ ap (of_int binary32) (kept found.result found.type-inv ∙ found.ensures ∙ p.0)) ∙ p.1)
+    (ap (λ x. eq x scaled) (c.from.ensures ∙ ap (of_int binary32) (kept found.result found.type_inv ∙ found.ensures ∙ p.0)) ∙ p.1)

@@ -41,7 +41,7 @@ pub(crate) fn operate_place<L: Level>(
     requires source { from + w * h ≤ length sheets.old }
     requires target { to + w * h ≤ length sheets.old }
     requires plane { w * h ≤ length planes.old }
-    ensures { map height sheets.new ≡ overwritten to (operated op w h (offsets element.now) (take (w * h) (drop from (map height sheets.old)))) (map height sheets.old) }
+    ensures { map L.height sheets.new ≡ overwritten to (operated op w h (offsets element.now) (take (w * h) (drop from (map L.height sheets.old)))) (map L.height sheets.old) }
 {
     let cells = w * h;
     let plane = &mut planes[0..cells];
@@ -52,7 +52,7 @@ pub(crate) fn operate_place<L: Level>(
 // The sum of the heights of a sheet.
 fn area_of<L: Level>(sheet: &[L]) -> u64
     requires { length sheet.now ≤ 1048576 }
-    ensures { result ≡ area (map height sheet.now) }
+    ensures { result ≡ area (map L.height sheet.now) }
 {
     let mut sum: u64 = 0;
     for level in sheet {
@@ -65,7 +65,7 @@ fn area_of<L: Level>(sheet: &[L]) -> u64
 pub(crate) fn area_from<L: Level>(sheets: &[L], start: usize, cells: usize) -> u64
     requires sheet { start + cells ≤ length sheets.now }
     requires small { cells ≤ 1048576 }
-    ensures { result ≡ area (take cells (drop start (map height sheets.now))) }
+    ensures { result ≡ area (take cells (drop start (map L.height sheets.now))) }
 {
     area_of(&sheets[start..start + cells])
 }

@@ -20,7 +20,7 @@ impl<'a, L: Level> Rack<'a, 'a, L> {
     /// Opens a rack: every place is empty, no visit is open and the memory is as it was.
     /// Wrong sizes, which `check_rack` refuses, open it with sides 0 and no places.
     pub fn open(memory: &'a mut [L], w: usize, h: usize, places: usize) -> Rack<'a, 'a, L>
-        ensures state { rack_state height result ≡ as_opened 2 w h places (length memory.old) }
+        ensures state { rack_state L.height result ≡ as_opened 2 w h places (length memory.old) }
         ensures memory { result.sheets.now ++ result.planes.now ≡ memory.old }
     {
         let marks = opened_marks(2, w, h, places, memory.len());

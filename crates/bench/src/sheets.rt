@@ -18,7 +18,7 @@ impl<L: Level> Rack<'_, '_, L> {
     /// Refuses a picture of another length (4), a place that the rack has not (5), and no visit open (31).
     pub fn load(&mut self, place: usize, picture: &[L]) -> Result<(), Fault>
         ensures answers { result ≡ told (load_refusal (rack_outline self.old) place (length picture.now)) }
-        ensures steps { rack_state height self.new ≡ load_leaves (rack_state height self.old) place (map height picture.now) }
+        ensures steps { rack_state L.height self.new ≡ load_leaves (rack_state L.height self.old) place (map L.height picture.now) }
         ensures memory { MatchResult result
             (λ _. self.new.sheets.now ≡ overwritten (place_start (self.old.marks.w * self.old.marks.h) place) picture.now self.old.sheets.now)
             (λ _. self.new.sheets.now ≡ self.old.sheets.now) }
@@ -41,9 +41,9 @@ impl<L: Level> Rack<'_, '_, L> {
         to: usize,
     ) -> Result<(), Fault>
         ensures answers { result ≡ told (transform_refusal (rack_outline self.old) from to) }
-        ensures steps { rack_state height self.new ≡ operate_leaves op (rack_state height self.old) (offsets element.now) from to }
+        ensures steps { rack_state L.height self.new ≡ operate_leaves op (rack_state L.height self.old) (offsets element.now) from to }
         ensures memory { MatchResult result
-            (λ _. map height self.new.sheets.now ≡ operate_writes op self.old.marks (offsets element.now) from to (map height self.old.sheets.now))
+            (λ _. map L.height self.new.sheets.now ≡ operate_writes op self.old.marks (offsets element.now) from to (map L.height self.old.sheets.now))
             (λ _. self.new.sheets.now ≡ self.old.sheets.now) }
         ensures planes { OnErr result (self.new.planes.now ≡ self.old.planes.now) }
     {
@@ -73,9 +73,9 @@ impl<L: Level> Rack<'_, '_, L> {
     /// Refuses a place that the rack has not (5), no visit open (31), and a source place that is empty (34).
     pub fn erode(&mut self, element: &Element, from: usize, to: usize) -> Result<(), Fault>
         ensures answers { result ≡ told (transform_refusal (rack_outline self.old) from to) }
-        ensures steps { rack_state height self.new ≡ operate_leaves Erosion (rack_state height self.old) (offsets element.now) from to }
+        ensures steps { rack_state L.height self.new ≡ operate_leaves Erosion (rack_state L.height self.old) (offsets element.now) from to }
         ensures memory { MatchResult result
-            (λ _. map height self.new.sheets.now ≡ operate_writes Erosion self.old.marks (offsets element.now) from to (map height self.old.sheets.now))
+            (λ _. map L.height self.new.sheets.now ≡ operate_writes Erosion self.old.marks (offsets element.now) from to (map L.height self.old.sheets.now))
             (λ _. self.new.sheets.now ≡ self.old.sheets.now) }
         ensures planes { OnErr result (self.new.planes.now ≡ self.old.planes.now) }
     {
@@ -86,9 +86,9 @@ impl<L: Level> Rack<'_, '_, L> {
     /// Refuses a place that the rack has not (5), no visit open (31), and a source place that is empty (34).
     pub fn dilate(&mut self, element: &Element, from: usize, to: usize) -> Result<(), Fault>
         ensures answers { result ≡ told (transform_refusal (rack_outline self.old) from to) }
-        ensures steps { rack_state height self.new ≡ operate_leaves Dilation (rack_state height self.old) (offsets element.now) from to }
+        ensures steps { rack_state L.height self.new ≡ operate_leaves Dilation (rack_state L.height self.old) (offsets element.now) from to }
         ensures memory { MatchResult result
-            (λ _. map height self.new.sheets.now ≡ operate_writes Dilation self.old.marks (offsets element.now) from to (map height self.old.sheets.now))
+            (λ _. map L.height self.new.sheets.now ≡ operate_writes Dilation self.old.marks (offsets element.now) from to (map L.height self.old.sheets.now))
             (λ _. self.new.sheets.now ≡ self.old.sheets.now) }
         ensures planes { OnErr result (self.new.planes.now ≡ self.old.planes.now) }
     {
@@ -98,7 +98,7 @@ impl<L: Level> Rack<'_, '_, L> {
     /// Tells the area of the sheet in a place: the sum of its heights.
     /// Refuses a place that the rack has not (5), no visit open (31), and a place that is empty (34).
     pub fn area(&self, place: usize) -> Result<u64, Fault>
-        ensures { result ≡ area_answer (rack_state height self.now) place }
+        ensures { result ≡ area_answer (rack_state L.height self.now) place }
     {
         let marks = self.marks;
         let places = marks.places_in(2, self.sheets.len(), self.planes.len());

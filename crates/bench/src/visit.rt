@@ -22,7 +22,7 @@ pub fn begin<L: Level>(
     ensures answers { MatchResult result
         (λ slip. (begin_refusal (rack_outline rack.old) (slate_outline slate.old) flat ≡ None) × (slip.flat ≡ flat))
         (λ fault. begin_refusal (rack_outline rack.old) (slate_outline slate.old) flat ≡ Some fault) }
-    ensures rack_steps { rack_state height rack.new ≡ unless (begin_refusal (rack_outline rack.old) (slate_outline slate.old) flat) (visited (rack_state height rack.old) flat) (rack_state height rack.old) }
+    ensures rack_steps { rack_state L.height rack.new ≡ unless (begin_refusal (rack_outline rack.old) (slate_outline slate.old) flat) (visited (rack_state L.height rack.old) flat) (rack_state L.height rack.old) }
     ensures slate_steps { slate_state slate.new ≡ unless (begin_refusal (rack_outline rack.old) (slate_outline slate.old) flat) (visited (slate_state slate.old) flat) (slate_state slate.old) }
     ensures sheets { rack.new.sheets.now ≡ rack.old.sheets.now }
     ensures planes { rack.new.planes.now ≡ rack.old.planes.now }
@@ -46,11 +46,11 @@ pub fn end<L: Level>(
     ensures answers { MatchResult result
         (λ _. end_refusal (rack_outline rack.old) (slate_outline slate.old) slip.flat ≡ None)
         (λ e. (end_refusal (rack_outline rack.old) (slate_outline slate.old) slip.flat ≡ Some e.fault) × (e.slip ≡ slip)) }
-    ensures rack_steps { rack_state height rack.new ≡ unless (end_refusal (rack_outline rack.old) (slate_outline slate.old) slip.flat) (ended (rack_state height rack.old)) (rack_state height rack.old) }
+    ensures rack_steps { rack_state L.height rack.new ≡ unless (end_refusal (rack_outline rack.old) (slate_outline slate.old) slip.flat) (ended (rack_state L.height rack.old)) (rack_state L.height rack.old) }
     ensures slate_steps { slate_state slate.new ≡ unless (end_refusal (rack_outline rack.old) (slate_outline slate.old) slip.flat) (ended (slate_state slate.old)) (slate_state slate.old) }
     ensures memory { MatchResult result
-        (λ _. (map height rack.new.sheets.now ≡ replicate (length rack.old.sheets.now) 0)
-        × (map height rack.new.planes.now ≡ replicate (length rack.old.planes.now) 0)
+        (λ _. (map L.height rack.new.sheets.now ≡ replicate (length rack.old.sheets.now) 0)
+        × (map L.height rack.new.planes.now ≡ replicate (length rack.old.planes.now) 0)
         × (slate.new.tallies.now ≡ replicate (length slate.old.tallies.now) (pos 0)))
         (λ _. (rack.new.sheets.now ≡ rack.old.sheets.now)
         × (rack.new.planes.now ≡ rack.old.planes.now)

@@ -37,7 +37,7 @@ pub fn operate<L: Level>(
 ) -> Result<(), Fault>
     ensures answers { result ≡ sheets_answer w h (length from.now) (length to.old) }
     ensures memory { MatchResult result
-        (λ _. map height to.new ≡ operated op w h (offsets element.now) (map height from.now))
+        (λ _. map L.height to.new ≡ operated op w h (offsets element.now) (map L.height from.now))
         (λ _. to.new ≡ to.old) }
 {
     check_sheets(w, h, from.len(), to.len())?;
@@ -59,7 +59,7 @@ pub fn erode<L: Level>(
 ) -> Result<(), Fault>
     ensures answers { result ≡ sheets_answer w h (length from.now) (length to.old) }
     ensures memory { MatchResult result
-        (λ _. map height to.new ≡ eroded w h (offsets element.now) (map height from.now))
+        (λ _. map L.height to.new ≡ eroded w h (offsets element.now) (map L.height from.now))
         (λ _. to.new ≡ to.old) }
 {
     operate(Operation::Erosion, from, to, w, h, element)
@@ -77,7 +77,7 @@ pub fn dilate<L: Level>(
 ) -> Result<(), Fault>
     ensures answers { result ≡ sheets_answer w h (length from.now) (length to.old) }
     ensures memory { MatchResult result
-        (λ _. map height to.new ≡ dilated w h (offsets element.now) (map height from.now))
+        (λ _. map L.height to.new ≡ dilated w h (offsets element.now) (map L.height from.now))
         (λ _. to.new ≡ to.old) }
 {
     operate(Operation::Dilation, from, to, w, h, element)

@@ -14,7 +14,7 @@ pub enum Operation {
 impl Operation {
     // The one of two levels that the operation keeps.
     pub(crate) fn kept<L: Level>(self, x: L, y: L) -> L
-        ensures { height result ≡ extreme self (height x) (height y) }
+        ensures { L.height result ≡ extreme self (L.height x) (L.height y) }
     {
         match self {
             Operation::Erosion => if x.at_most(y) { x } else { y },

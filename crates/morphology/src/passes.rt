@@ -20,7 +20,7 @@ fn pass_row<L: Level>(
     requires offset { c ≤ 6 }
     requires read { source + w ≤ length from.now }
     requires row { base + w ≤ length to.old }
-    ensures { Passed op (in_row w (map height from.now) c source base) (map height to.old) (map height to.new) base (base + w) }
+    ensures { Passed op (in_row w (map L.height from.now) c source base) (map L.height to.old) (map L.height to.new) base (base + w) }
 {
     let left = 3usize.saturating_sub(c).min(w);
     let right = c.saturating_sub(3).min(w);
@@ -46,7 +46,7 @@ pub(crate) fn pass<L: Level>(
     requires sides { (1 ≤ w) × ((w ≤ 1024) × (h ≤ 1024)) }
     requires source { length from.now ≡ w * h }
     requires target { length to.old ≡ w * h }
-    ensures { Passed op (at_place w (neighbour w h (map height from.now) c r)) (map height to.old) (map height to.new) 0 (w * h) }
+    ensures { Passed op (at_place w (neighbour w h (map L.height from.now) c r)) (map L.height to.old) (map L.height to.new) 0 (w * h) }
 {
     let above = 3usize.saturating_sub(r).min(h);
     let below = r.saturating_sub(3).min(h);

@@ -16,7 +16,7 @@ pub(crate) fn combine<L: Level>(
 )
     requires source { s + len ≤ length from.now }
     requires target { t + len ≤ length to.old }
-    ensures { Passed op (in_run (map height from.now) s t) (map height to.old) (map height to.new) t (t + len) }
+    ensures { Passed op (in_run (map L.height from.now) s t) (map L.height to.old) (map L.height to.new) t (t + len) }
 {
     for k in 0..len {
         to[t + k] = op.kept(to[t + k], from[s + k]);
@@ -26,7 +26,7 @@ pub(crate) fn combine<L: Level>(
 // Each of `len` cells from `t` on keeps the extreme of itself and of what lies outside the sheet.
 pub(crate) fn combine_outside<L: Level>(op: Operation, to: &mut [L], t: usize, len: usize)
     requires { t + len ≤ length to.old }
-    ensures { Passed op outside (map height to.old) (map height to.new) t (t + len) }
+    ensures { Passed op outside (map L.height to.old) (map L.height to.new) t (t + len) }
 {
     for k in 0..len {
         to[t + k] = op.kept(to[t + k], L::lowest());

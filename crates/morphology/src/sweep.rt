@@ -20,7 +20,7 @@ pub(crate) fn sweep<L: Level>(
     requires sides { (1 ≤ w) × ((w ≤ 1024) × (h ≤ 1024)) }
     requires source { length from.now ≡ w * h }
     requires target { to.old ≡ from.now }
-    ensures { (p : ℕ) → p < w * h → slice_index (map height to.new) p ≡ swept op w h (map height from.now) (offsets element.now) p }
+    ensures { (p : ℕ) → p < w * h → slice_index (map L.height to.new) p ≡ swept op w h (map L.height from.now) (offsets element.now) p }
 {
     let mut c = 0;
     let mut r = 0;

@@ -21,42 +21,42 @@ pub loop-i-init : goal.loop-i-init
 loop-i-init g c =
     (length-replicate g.row.N 0, c.requires, ap (λ (k : ℕ). scan (arguments k) c.args.line.now 1) (omega arith))
 
-pub returns-in-err-start : goal.returns-in-err-start
-returns-in-err-start g c =
-    let p = err_from_is_err_and c.from-residual.result c.from-residual.ensures.1 in
+pub returns-in_err-start : goal.returns-in_err-start
+returns-in_err-start g c =
+    let p = err_from_is_err_and c.from_residual.result c.from_residual.ensures.1 in
     rw (p.1, p.2)
     (record {
       answers =
           decided g.row.N c.loop-i.i c.loop-i.numbers c.args.line.now c.loop-i.at _ c.loop-i.invariant.2 c.loop-i-test.true
-          (blank_refused _ c.args.line.now c.loop-i.at _ c.in-err-start.ensures.answers)
+          (blank_refused _ c.args.line.now c.loop-i.at _ c.in_err-start.ensures.answers)
           ∙ refused_after (take c.loop-i.i c.loop-i.numbers) _;
-      within = (c.in-err-start.ensures.tells c.loop-i.invariant.1).within;
+      within = (c.in_err-start.ensures.tells c.loop-i.invariant.1).within;
     })
 
-pub returns-in-err-read : goal.returns-in-err-read
-returns-in-err-read g c =
-    let p = err_from_is_err_and c.from-residual-in-err-read.result c.from-residual-in-err-read.ensures.1 in
+pub returns-in_err-read : goal.returns-in_err-read
+returns-in_err-read g c =
+    let p = err_from_is_err_and c.from_residual-in_err-read.result c.from_residual-in_err-read.ensures.1 in
     rw (p.1, p.2)
     (record {
       answers =
           decided g.row.N c.loop-i.i c.loop-i.numbers c.args.line.now c.loop-i.at _ c.loop-i.invariant.2 c.loop-i-test.true
-          (one_more_refused _ c.args.line.now c.loop-i.at _ _ c.in-ok-start.ensures.answers c.in-err-read.ensures.answers)
+          (one_more_refused _ c.args.line.now c.loop-i.at _ _ c.in_ok-start.ensures.answers c.in_err-read.ensures.answers)
           ∙ refused_after (take c.loop-i.i c.loop-i.numbers) _;
-      within = omega (arith, c.in-err-read.ensures.tells.0, (c.in-ok-start.ensures.tells c.loop-i.invariant.1).within);
+      within = omega (arith, c.in_err-read.ensures.tells.0, (c.in_ok-start.ensures.tells c.loop-i.invariant.1).within);
     })
 
 pub loop-i-preserved : goal.loop-i-preserved
 loop-i-preserved g c =
     let i : ℕ = c.loop-i.i in
-    let n : ℕ = c.in-ok-read.read.value in
+    let n : ℕ = c.in_ok-read.read.value in
     let room : i < length c.loop-i.numbers = omega (arith, c.loop-i.invariant.0) in (
       length-set c.loop-i.numbers i n ∙ c.loop-i.invariant.0,
-      c.in-ok-read.ensures.tells.within,
+      c.in_ok-read.ensures.tells.within,
       decided g.row.N i c.loop-i.numbers c.args.line.now c.loop-i.at _ c.loop-i.invariant.2 c.loop-i-test.true
-          (one_more_read _ c.args.line.now c.loop-i.at _ c.in-ok-read.read
-          c.in-ok-start.ensures.answers c.in-ok-read.ensures.answers)
+          (one_more_read _ c.args.line.now c.loop-i.at _ c.in_ok-read.read
+          c.in_ok-start.ensures.answers c.in_ok-read.ensures.answers)
           ∙ (sym (one_more_before (take i c.loop-i.numbers) n _)
-          ∙ ap (λ (ns : List ℕ). all_before ns (scan (arguments (g.row.N - (i + 1))) c.args.line.now c.in-ok-read.read.end))
+          ∙ ap (λ (ns : List ℕ). all_before ns (scan (arguments (g.row.N - (i + 1))) c.args.line.now c.in_ok-read.read.end))
           (sym (take_more_set c.loop-i.numbers i n room))),
     )
 

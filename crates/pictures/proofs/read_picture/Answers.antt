@@ -8,7 +8,7 @@ use Rattle.pictures.proofs.read_picture.Goals as goal
 
 pub returns-in-Ok : goal.returns-in-Ok
 returns-in-Ok c =
-    let answer = c.check-size.ensures ∙ ap (λ (r : Result Reading Misfit). pictured r (length c.args.bytes.now)) (sym c.in-Ok.ensures.answers) in
+    let answer = c.check_size.ensures ∙ ap (λ (r : Result Reading Misfit). pictured r (length c.args.bytes.now)) (sym c.in-Ok.ensures.answers) in
     record {
       answers = answer;
       within = fills_file c.args.bytes.now _ answer;

@@ -7,7 +7,7 @@ pub returns : goal.returns
 returns g c =
     let f = map g.L.Level.height c.args.from.now in
     let element = c.args.element.now in
-    let checked = c.in-ok-check-sheets.ensures.sheets in
+    let checked = c.in_ok-check_sheets.ensures.sheets in
     record {
       answers = search rules;
       memory = swept-operated c.args.w c.args.h f element.flags checked.0 element.centre c.args.op _

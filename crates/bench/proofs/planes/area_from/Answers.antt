@@ -4,8 +4,8 @@ use Rattle.morphology.specs.Sheets.{area}
 use Rattle.bench.proofs.Memory.{heights_of_part}
 use Rattle.bench.proofs.planes.area_from.Goals as goal
 
-pub area-of-requires : goal.area-of-requires
-area-of-requires g c = simp (length-take, length-drop) (omega arith)
+pub area_of-requires : goal.area_of-requires
+area_of-requires g c = simp (length-take, length-drop) (omega arith)
 
 pub returns : goal.returns
-returns g c = c.area-of.ensures ∙ ap area (heights_of_part g.L.Level.height c.args.start c.args.cells c.args.sheets.now)
+returns g c = c.area_of.ensures ∙ ap area (heights_of_part g.L.Level.height c.args.start c.args.cells c.args.sheets.now)

@@ -4,8 +4,8 @@ use Rattle.std.proofs.lemmas.List.Sums.{fold_more}
 use Rattle.morphology.specs.Sheets.{area}
 use Rattle.bench.proofs.planes.area_of.Goals as goal
 
-pub overflow-add-sum : goal.overflow-add-sum
-overflow-add-sum g c = omega (arith, g.met.L.Level.within c.level-item.result, g.met.L.Level.bounded)
+pub overflow_add-sum : goal.overflow_add-sum
+overflow_add-sum g c = omega (arith, g.met.L.Level.within c.level-item.result, g.met.L.Level.bounded)
 
 pub loop-level-preserved : goal.loop-level-preserved
 loop-level-preserved g c =

@@ -8,17 +8,17 @@ use Rattle.bench.proofs.Refusals.{accepted_tells, refused_tells, transform_accep
 use Rattle.bench.proofs.Stored.{place_within}
 use Rattle.bench.proofs.rack.Rack.area.Goals as goal
 
-pub returns-in-err-refuse-transform : goal.returns-in-err-refuse-transform
-returns-in-err-refuse-transform g c =
-    let told_back = err_from_is_err_and c.from-residual.result c.from-residual.ensures.1 in
-    told_back.1 ∙ ap Err told_back.2 ∙ refused_tells _ _ _ (rw c.places-in-places.ensures at c.in-err-refuse-transform.ensures)
+pub returns-in_err-refuse_transform : goal.returns-in_err-refuse_transform
+returns-in_err-refuse_transform g c =
+    let told_back = err_from_is_err_and c.from_residual.result c.from_residual.ensures.1 in
+    told_back.1 ∙ ap Err told_back.2 ∙ refused_tells _ _ _ (rw c.places_in-places.ensures at c.in_err-refuse_transform.ensures)
 
-pub area-from-requires : goal.area-from-requires
-area-from-requires g c =
+pub area_from-requires : goal.area_from-requires
+area_from-requires g c =
     let rack = c.args.self.now in
     let marks = rack.marks in
     let outline = (rack_state g.L.Level.height rack).outline in
-    let accepted = transform_accepted outline c.args.place c.args.place (rw c.places-in-places.ensures at c.in-ok-refuse-transform.ensures) in
+    let accepted = transform_accepted outline c.args.place c.args.place (rw c.places_in-places.ensures at c.in_ok-refuse_transform.ensures) in
     let sheets = sheets_long marks 2 (length rack.sheets.now) (length rack.planes.now) c.args.place accepted.0 in
     record {
       sheet = rw (c.cells-cells.ensures, sheets) (place_within (marks.w * marks.h) outline.places c.args.place accepted.0);
@@ -31,8 +31,8 @@ returns g c =
     let cells = rack.marks.w * rack.marks.h in
     let heights = map g.L.Level.height rack.sheets.now in
     let outline = (rack_state g.L.Level.height rack).outline in
-    let passed = rw c.places-in-places.ensures at c.in-ok-refuse-transform.ensures in
+    let passed = rw c.places_in-places.ensures at c.in_ok-refuse_transform.ensures in
     let accepted = transform_accepted outline c.args.place c.args.place passed in
-    let told = rw c.cells-cells.ensures at c.area-from.ensures in
+    let told = rw c.cells-cells.ensures at c.area_from.ensures in
     let held : cells_of cells c.args.place heights ≡ (rack_state g.L.Level.height rack).content c.args.place = sym (ap (λ b. cond b (cells_of cells c.args.place heights) []) accepted.3) in
     ap Ok (told ∙ ap area held) ∙ accepted_tells _ _ passed

@@ -4,9 +4,9 @@ use Rattle.bench.proofs.slate.Slate.open.Goals as goal
 
 pub returns : goal.returns
 returns c =
-    let marks = c.opened-marks-marks.ensures in
+    let marks = c.opened_marks-marks.ensures in
     record {
-      state = as_opened_state c.opened-marks-marks.result 0 c.args.w c.args.h c.args.places _ _ _
+      state = as_opened_state c.opened_marks-marks.result 0 c.args.w c.args.h c.args.places _ _ _
           marks.w marks.h marks.places marks.visit marks.filled (marks.whole refl);
       memory = search rules;
     }

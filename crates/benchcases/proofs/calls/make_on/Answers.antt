@@ -3,8 +3,8 @@ use Rattle.bench.specs.Model.{rack_outline, rack_state, slate_outline, slate_sta
 use Rattle.benchcases.proofs.Slips.{free_holds, opened_free}
 use Rattle.benchcases.proofs.calls.make_on.Goals as goal
 
-pub make-all-requires : goal.make-all-requires
-make-all-requires g c =
+pub make_all-requires : goal.make_all-requires
+make_all-requires g c =
     let sheets = c.args.sheets in
     let tallies = c.args.tallies in
     let rack = opened_free 2 sheets.w sheets.h sheets.places (length c.args.levels.now) (rack_state g.L.Level.height c.open-rack.result) c.open-rack.ensures.state in

@@ -7,7 +7,7 @@ pub loop-byte-preserved : goal.loop-byte-preserved
 loop-byte-preserved c =
     let bytes = c.args.bytes.now in
     let i = c.loop-byte.byte-index in (
-      ap (map gray_height) c.in-ok-push.ensures.items
+      ap (map gray_height) c.in_ok-push.ensures.items
           ∙ map_push gray_height _ c.new.result
           ∙ ap (λ xs. xs ++ gray_height c.new.result ∷ []) c.loop-byte.invariant.0
           ∙ ap (λ v. take i bytes ++ v ∷ []) c.new.ensures

@@ -11,7 +11,7 @@ returns-in-Ok c =
     let job = c.in-Ok.job in
     let file = c.args.file.now in
     let input = c.args.input.now in
-    IfOk-weaker c.run-picture.result _ (λ out. string_bytes out ≡ printed c.args.card.now file input)
+    IfOk-weaker c.run_picture.result _ (λ out. string_bytes out ≡ printed c.args.card.now file input)
     (λ out is. is ∙ ap (λ cells. run_lines_lem (offsets job.element) cells (opened_bench job.picture.width job.picture.height) 1 (lines_of input)) (take_rest file job.picture.start)
     ∙ ap (λ p. printed_for p file input) (sym c.in-Ok.ensures.answers))
-    c.run-picture.ensures
+    c.run_picture.ensures

@@ -1,5 +1,5 @@
 -- What a call leaves where it is refused and where it is not. Assumes nothing.
-use Rattle.std.proofs.Common.{◌≡◌, ℕ, ◌*◌, Bool, true, false, not, is_some, Some, None, Ok, Err, Option, Result, refl, arith}
+use Rattle.std.proofs.Common.{◌≡◌, ℕ, ◌*◌, Bool, true, false, is_some, Some, None, Ok, Err, Option, refl, arith}
 use Rattle.std.proofs.lemmas.Bool.{not-false, eqb-true, and_parts}
 use Rattle.limits.specs.declared.fault.Fault.{Fault}
 use Rattle.limits.specs.Faults.{first}

@@ -1,5 +1,5 @@
 -- The numbers of a command name the places that a call gets. Assumes nothing.
-use Rattle.std.proofs.Common.{◌≡◌, ℕ, List, ℤ, None, Option, Result, sym, ap, ◌∙◌}
+use Rattle.std.proofs.Common.{◌≡◌, ℕ, List, ℤ, None, Option, Result, sym, ◌∙◌}
 use Rattle.bench.specs.Calls.{operate_leaves, transform_refusal}
 use Rattle.bench.specs.Model.{State}
 use Rattle.faults.specs.declared.JobFault.{JobFault}

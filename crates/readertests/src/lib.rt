@@ -9,4 +9,4 @@ mod files;
 #[cfg(test)]
 mod lines;
 #[cfg(test)]
-mod readings;
+mod heat_readings;

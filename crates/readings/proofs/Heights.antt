@@ -3,7 +3,7 @@ use Rattle.std.proofs.Common.{◌≡◌, ℕ, zero, suc, ◌≤◌, List, [], �
 use lib.Ieee.{Float}
 use lib.IntN.{ -ℤ-+ℤ_cancel}
 use Rattle.std.proofs.lemmas.Int.{ints}
-use Rattle.std.specs.List.{AllByRecursion as All}
+use Rattle.std.specs.List.{AllByRecursion}
 use Rattle.readings.specs.declared.reading.Reading.{Reading}
 use Rattle.readings.specs.declared.reading.Reading.TheVariants.{Dead, Degrees, Beyond}
 use Rattle.readings.specs.Readings.{Count, ReadsDegrees, Reads, told_as}
@@ -45,7 +45,7 @@ told_reads (suc n) l =
     (c, (count, told_exactly c count), sym (-ℤ-+ℤ_cancel (pos (suc n)) (pos 32769)))
 
 -- The readings by which levels are told stand for those levels.
-told_reads_all : (hs : List ℕ) → All (λ h. h ≤ 65536) hs → ReadsAll (map told_as hs) hs
+told_reads_all : (hs : List ℕ) → AllByRecursion (λ h. h ≤ 65536) hs → ReadsAll (map told_as hs) hs
 told_reads_all [] l = tt
 told_reads_all (h ∷ hs) l = (told_reads h l.0, told_reads_all hs l.1)
 

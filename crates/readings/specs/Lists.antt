@@ -1,6 +1,6 @@
 -- Lists of readings, and the lists of heights that they stand for. Assumes nothing.
 use Rattle.std.specs.Prelude.{◌≡◌, ℕ, ◌<◌, ◌≤◌, List, [], ◌∷◌, map, length, take, slice_index_or}
-use Rattle.std.specs.List.{AllByRecursion as All}
+use Rattle.std.specs.List.{AllByRecursion}
 use Rattle.levels.specs.declared.heat.Heat.{Heat}
 use Rattle.readings.specs.declared.fault.ReadingFault.{ReadingFault}
 use Rattle.readings.specs.declared.fault.ReadingFault.TheVariants.{Lengths, Unreadable}
@@ -21,14 +21,14 @@ ReadsAll (r ∷ rs) (h ∷ hs) = Reads r h × ReadsAll rs hs
 
 -- readings are accepted for n levels where there are as many, and each reading stands for a level
 abbrev pub Accepted : List Reading → ℕ → Type 0
-Accepted rs n = (length rs ≡ n) × All Readable rs
+Accepted rs n = (length rs ≡ n) × AllByRecursion Readable rs
 
 -- they are refused where there are not as many levels, and else at k, the first reading that stands for none
 abbrev pub Refused : List Reading → ℕ → ReadingFault → Type 0
 Refused rs n Lengths = length rs ≡ n → ⊥
-Refused rs n (Unreadable k) = (length rs ≡ n) × (k < n) × All Readable (take k rs) × (Readable (slice_index_or rs k Dead) → ⊥)
+Refused rs n (Unreadable k) = (length rs ≡ n) × (k < n) × AllByRecursion Readable (take k rs) × (Readable (slice_index_or rs k Dead) → ⊥)
 
 -- levels of any heights, told as readings and read again, are the levels of the same heights, and of no other
 abbrev pub ReadsBack : Type 0
-ReadsBack = (hs : List ℕ) → All (λ h. h ≤ 65536) hs →
+ReadsBack = (hs : List ℕ) → AllByRecursion (λ h. h ≤ 65536) hs →
     ReadsAll (map told_as hs) hs × ((ks : List ℕ) → ReadsAll (map told_as hs) ks → ks ≡ hs)

@@ -2,7 +2,7 @@
 ghost use Rattle.std.specs.Prelude.{◌≡◌, map, length, MatchResult, ◌≢◌};
 ghost use Rattle.readings.specs.Lists.{Accepted, ReadsAll, ReadsBack, Refused, heat_height};
 ghost use Rattle.readings.specs.Readings.{Readable, told_as};
-ghost use Rattle.std.specs.List.{AllByRecursion as All};
+ghost use Rattle.std.specs.List.{AllByRecursion};
 
 use crate::fault::ReadingFault;
 use crate::reading::Reading;
@@ -11,7 +11,7 @@ use levels::Heat;
 // Refuses the first reading that stands for no level.
 fn check_readings(readings: &[Reading]) -> Result<(), ReadingFault>
     ensures { MatchResult result
-        (λ _. All Readable readings.now)
+        (λ _. AllByRecursion Readable readings.now)
         (λ fault. Refused readings.now (length readings.now) fault) }
 {
     for (index, reading) in readings.iter().enumerate() {
@@ -24,7 +24,7 @@ fn check_readings(readings: &[Reading]) -> Result<(), ReadingFault>
 
 // Writes the levels that readings stand for.
 fn write_levels(readings: &[Reading], levels: &mut [Heat])
-    requires { (length readings.now ≡ length levels.old) × (All Readable readings.now) }
+    requires { (length readings.now ≡ length levels.old) × (AllByRecursion Readable readings.now) }
     ensures { ReadsAll readings.now (map heat_height levels.new) }
 {
     for (index, reading) in readings.iter().enumerate() {

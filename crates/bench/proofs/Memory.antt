@@ -8,6 +8,7 @@ use Rattle.morphology.specs.declared.operation.Operation.{Operation}
 use Rattle.morphology.specs.declared.operation.Operation.TheVariants.{Erosion, Dilation}
 use Rattle.morphology.specs.Erosion.{erosion_at, dilation_at}
 use Rattle.morphology.specs.Erosion.{operated}
+use Rattle.morphology.specs.Cells.{two_sheets_answer}
 use Rattle.morphology.specs.Sheets.{at_place, sheets_answer}
 use Rattle.bench.specs.Model.{overwritten}
 
@@ -29,11 +30,17 @@ map-overwritten f start cells memory =
 pub sheets_accepted : (w h from to : ℕ) → 1 ≤ w → w ≤ 1024 → 1 ≤ h → h ≤ 1024 → from ≡ w * h → to ≡ w * h → sheets_answer w h from to ≡ Ok tt
 sheets_accepted w h from to a b c d e f = rw (le-leb 1 w a, le-leb w 1024 b, le-leb 1 h c, le-leb h 1024 d, eq-eqb from (w * h) e, eq-eqb to (w * h) f) refl
 
+pub two_sheets_accepted : (w h one other to : ℕ) → 1 ≤ w → w ≤ 1024 → 1 ≤ h → h ≤ 1024 → one ≡ w * h → other ≡ w * h → to ≡ w * h → two_sheets_answer w h one other to ≡ Ok tt
+two_sheets_accepted w h one other to a b c d e f g = rw (le-leb 1 w a, le-leb w 1024 b, le-leb 1 h c, le-leb h 1024 d, eq-eqb one (w * h) e, eq-eqb other (w * h) f, eq-eqb to (w * h) g) refl
+
 -- the heights of a part of memory
+pub heights_of_cells : {X : Type 0} (height : X → ℕ) (start n : ℕ) (memory : List X) → map height (take n (drop start memory)) ≡ take n (drop start (map height memory))
+heights_of_cells height start n memory = sym (take-map height n (drop start memory)) ∙ ap (take n) (sym (drop-map height start memory))
+
 pub heights_of_part : {X : Type 0} (height : X → ℕ) (start n : ℕ) (memory : List X) → map height (take (start + n - start) (drop start memory)) ≡ take n (drop start (map height memory))
 heights_of_part height start n memory =
     let count : start + n - start ≡ n = omega arith in
-    ap (λ k. map height (take k (drop start memory))) count ∙ sym (take-map height n (drop start memory)) ∙ ap (take n) (sym (drop-map height start memory))
+    ap (λ k. map height (take k (drop start memory))) count ∙ heights_of_cells height start n memory
 
 -- an operation makes as many cells as the sheet has
 pub length-operated : (op : Operation) (w h : ℕ) (offsets : List (ℤ × ℤ)) (f : List ℕ) → length (operated op w h offsets f) ≡ w * h

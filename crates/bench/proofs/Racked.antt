@@ -1,9 +1,9 @@
--- A sheet stored in a place of a rack. Assumes nothing.
+-- A place of a rack or a slate in its memory, and a sheet stored in one. Assumes nothing.
 use Rattle.std.proofs.Common.{◌≡◌, ℕ, ◌+◌, ◌-◌, ◌*◌, ◌≤◌, Bool, true, false, cond, ◌&&◌, eqb, leb, List, map, length, set, sym, refl, ap, ◌∙◌, arith}
-use Rattle.std.proofs.lemmas.List.{length-map}
+use Rattle.std.proofs.lemmas.List.{length-map, length-take, length-drop}
 use Rattle.std.proofs.lemmas.Bool.{and_parts, eqb-true, leb-true}
 use Rattle.bench.specs.declared.marks.Marks.{Marks}
-use Rattle.bench.specs.Model.{is_place, state_of, places_in_lem, place_start, overwritten}
+use Rattle.bench.specs.Model.{cells_of, is_place, state_of, places_in_lem, place_start, overwritten}
 use Rattle.bench.specs.Calls.{stored}
 use Rattle.bench.proofs.Stored.{place_within, stored_state, length-overwritten}
 
@@ -40,6 +40,13 @@ module _ (m : Marks) (working sheets planes k : ℕ) (place : is_place (places_i
       let low = leb-true 1 k both.0 in
       let high = leb-true k (places_in_lem m working sheets planes) both.1 in
       (omega (arith, m.some_column, all_places), omega (arith, m.some_row, all_places))
+
+  -- so the place lies in it, and has all its cells
+  pub place_in_memory : place_start (m.w * m.h) k + m.w * m.h ≤ sheets
+  place_in_memory = rw sheets_long (place_within (m.w * m.h) (places_in_lem m working sheets planes) k place)
+
+  pub cells_long : {X : Type 0} (memory : List X) → length memory ≡ sheets → length (cells_of (m.w * m.h) k memory) ≡ m.w * m.h
+  cells_long memory long = let within = place_in_memory in simp (length-take, length-drop) (omega arith)
 
 -- another sheet's heights from the start of place k on, and its flag set
 pub sheet_stored : {L : Type 0} (height : L → ℕ) (m after : Marks) (k planes : ℕ) (was is : List L) (sheet : List ℕ) →

@@ -4,7 +4,7 @@ use Rattle.std.proofs.lemmas.Bool.{not-false, eqb-true, and_parts}
 use Rattle.limits.specs.declared.fault.Fault.{Fault}
 use Rattle.limits.specs.Faults.{first}
 use Rattle.bench.specs.Model.{Outline, is_place}
-use Rattle.bench.specs.Calls.{load_refusal, transform_refusal}
+use Rattle.bench.specs.Calls.{load_refusal, make_refusal, source_refusal, transform_refusal}
 use Rattle.limits.specs.Faults.{tells, told, unless}
 
 pub refused_leaves : {S : Type 0} (o : Option Fault) (e : Fault) (new old : S) → Err e ≡ told o → old ≡ unless o new old
@@ -53,3 +53,35 @@ transform_accepted o from to h =
     let three = passed_first _ _ _ two.1 in
     let both = and_parts _ _ (not-false _ one.0) in
     (both.0, both.1, not-false _ two.0, not-false _ three.0)
+
+pub source_accepted : (no_place empty : Fault) (o : Outline) (k : ℕ) → Ok tt ≡ told (source_refusal no_place empty o k) → (is_place o.places k ≡ true) × (o.filled k ≡ true)
+source_accepted no_place empty o k h =
+    let one = passed_first _ _ _ h in
+    let two = passed_first _ _ _ one.1 in
+    let three = passed_first _ _ _ two.1 in
+    (not-false _ one.0, not-false _ three.0)
+
+pub record MadeFrom (o : Outline) (one other to : ℕ) : Type 0 where
+  pub one_place : is_place o.places one ≡ true
+  pub other_place : is_place o.places other ≡ true
+  pub to_place : is_place o.places to ≡ true
+  pub visit : is_some o.visit ≡ true
+  pub one_filled : o.filled one ≡ true
+  pub other_filled : o.filled other ≡ true
+
+pub make_accepted : (o : Outline) (one other to : ℕ) → Ok tt ≡ told (make_refusal o one other to) → MadeFrom o one other to
+make_accepted o one other to h =
+    let first = passed_first _ _ _ h in
+    let second = passed_first _ _ _ first.1 in
+    let third = passed_first _ _ _ second.1 in
+    let places = and_parts _ _ (not-false _ first.0) in
+    let sources = and_parts _ _ places.0 in
+    let filled = and_parts _ _ (not-false _ third.0) in
+    record {
+      one_place = sources.0;
+      other_place = sources.1;
+      to_place = places.1;
+      visit = not-false _ second.0;
+      one_filled = filled.0;
+      other_filled = filled.1;
+    }

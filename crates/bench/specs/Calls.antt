@@ -1,14 +1,15 @@
 -- The calls on the bench: what each refuses, in the order of its table, and what it leaves. Assumes nothing.
-use Rattle.std.specs.Prelude.{ℕ, ◌*◌, Bool, true, false, cond, not, ◌&&◌, ◌||◌, List, [], length, ℤ, is_some, Some, None, Option, Result, ◌==◌, nat_le}
+use Rattle.std.specs.Prelude.{ℕ, ◌*◌, Bool, true, false, cond, not, ◌&&◌, ◌||◌, ◌≡◌, List, [], length, map, ℤ, is_some, Some, None, Option, Result, MatchResult, OnErr, ◌==◌, nat_le}
 use Rattle.morphology.specs.Sheets.{area}
 use Rattle.morphology.specs.Erosion.{operated}
 use Rattle.morphology.specs.declared.operation.Operation.{Operation}
 use Rattle.limits.specs.declared.fault.Fault.{Fault}
-use Rattle.limits.specs.declared.fault.Fault.TheVariants.{Length, SheetPlace, Flat, NoVisit, VisitOpen, OtherFlat, EmptySheet, Unequal}
+use Rattle.limits.specs.declared.fault.Fault.TheVariants.{Length, SheetPlace, TallyPlace, Flat, NoVisit, VisitOpen, OtherFlat, EmptySheet, EmptyTally, Unequal}
 use Rattle.bench.specs.declared.marks.Marks.{Marks}
-use Rattle.limits.specs.Faults.{first, tells, unless}
+use Rattle.limits.specs.Faults.{first, tells, told, unless}
 use Rattle.limits.specs.Sizes.{sizes_refusal}
-use Rattle.bench.specs.Model.{Outline, State, is_place, cells_of, overwritten, place_start}
+use Rattle.bench.specs.declared.rack.Rack.{Rack}
+use Rattle.bench.specs.Model.{Outline, State, is_place, cells_of, overwritten, place_start, rack_outline, rack_state, sheet_in}
 
 -- every place empty, and no visit open
 abbrev pub opened : {X : Type 0} → ℕ → ℕ → ℕ → State X
@@ -66,6 +67,45 @@ operate_writes op m offsets from to heights =
 -- area: the sum of the heights, refused as a call from that place to itself would be
 abbrev pub area_answer : State ℕ → ℕ → Result ℕ Fault
 area_answer s k = tells (transform_refusal s.outline k k) (area (s.content k))
+
+-- what is read from a place: the place, then the visit, then whether it is filled
+abbrev pub source_refusal : Fault → Fault → Outline → ℕ → Option Fault
+source_refusal no_place empty o k =
+    first (not (is_place o.places k)) no_place
+    (first (not (is_some o.visit)) NoVisit
+    (first (not (o.filled k)) empty None))
+
+abbrev pub sheet_refusal : Outline → ℕ → Option Fault
+sheet_refusal = source_refusal SheetPlace EmptySheet
+
+abbrev pub tally_refusal : Outline → ℕ → Option Fault
+tally_refusal = source_refusal TallyPlace EmptyTally
+
+-- a sheet made of those in two places into a third, each the same as another or not: the places, then the visit, then the sources
+abbrev pub make_refusal : Outline → ℕ → ℕ → ℕ → Option Fault
+make_refusal o one other to =
+    first (not (is_place o.places one && is_place o.places other && is_place o.places to)) SheetPlace
+    (first (not (is_some o.visit)) NoVisit
+    (first (not (o.filled one && o.filled other)) EmptySheet None))
+
+-- by what is made of two sheets of w × h heights: the state after it, and the heights in memory after it
+abbrev pub make_leaves : (ℕ → ℕ → List ℕ → List ℕ → List ℕ) → State ℕ → ℕ → ℕ → ℕ → State ℕ
+make_leaves made s one other to =
+    unless (make_refusal s.outline one other to) (stored s to (made s.outline.w s.outline.h (s.content one) (s.content other))) s
+
+abbrev pub make_writes : (ℕ → ℕ → List ℕ → List ℕ → List ℕ) → Marks → ℕ → ℕ → ℕ → List ℕ → List ℕ
+make_writes made m one other to heights =
+    overwritten (place_start (m.w * m.h) to) (made m.w m.h (sheet_in m heights one) (sheet_in m heights other)) heights
+
+-- A call makes a sheet so: it tells its refusal or nothing, leaves the state by its definition, and of the memory changes just
+-- the target's cells; the working planes are free, but a refusal leaves them too.
+pub record MakesSheet {L : Type 0} (height : L → ℕ) (made : ℕ → ℕ → List ℕ → List ℕ → List ℕ) (was is : Rack L) (one other to : ℕ) (answer : Result (Unit {0}) Fault) : Type 0 where
+  pub answers : answer ≡ told (make_refusal (rack_outline was) one other to)
+  pub steps : rack_state height is ≡ make_leaves made (rack_state height was) one other to
+  pub memory : MatchResult answer
+      (λ _. map height is.sheets.now ≡ make_writes made was.marks one other to (map height was.sheets.now))
+      (λ _. is.sheets.now ≡ was.sheets.now)
+  pub planes : OnErr answer (is.planes.now ≡ was.planes.now)
 
 -- the same number, where no visit counts as a number of its own
 abbrev pub same_visit : Option ℕ → Option ℕ → Bool

@@ -1,5 +1,5 @@
 -- The state of a rack or a slate, as its users know it. Assumes nothing.
-use Rattle.std.specs.Prelude.{ℕ, ◌+◌, ◌-◌, ◌*◌, Bool, false, cond, ◌&&◌, List, [], ◌++◌, map, length, take, drop, ℤ, Option, ◌==◌, nat_le, slice_index_or}
+use Rattle.std.specs.Prelude.{ℕ, ◌+◌, ◌-◌, ◌*◌, Bool, false, cond, ◌&&◌, List, [], ◌++◌, map, length, take, drop, ℤ, Option, ◌==◌, nat_le, slice_index, slice_index_or}
 use Rattle.bench.specs.declared.marks.Marks.{Marks}
 use Rattle.bench.specs.declared.rack.Rack.{Rack}
 use Rattle.bench.specs.declared.slate.Slate.{Slate}
@@ -69,3 +69,11 @@ rack_state height r = state_of r.marks (rack_outline r).places (map height r.she
 
 abbrev pub slate_state : Slate → State ℤ
 slate_state s = state_of s.marks (slate_outline s).places s.tallies.now
+
+-- the sheet in place k of memory of heights
+abbrev pub sheet_in : Marks → List ℕ → ℕ → List ℕ
+sheet_in m heights k = cells_of (m.w * m.h) k heights
+
+-- The weight of the tally in place k of a slate. A tally is a signed number for each cell, and a weight.
+abbrev pub tally_weight : Slate → ℕ → ℕ
+tally_weight s k = slice_index s.weights (k - 1)

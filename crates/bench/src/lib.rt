@@ -9,6 +9,7 @@ mod rack;
 mod sheets;
 mod slate;
 mod slip;
+mod tallies;
 mod visit;
 
 pub use rack::Rack;

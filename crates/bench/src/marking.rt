@@ -1,6 +1,6 @@
 // What is read off marks, what they refuse, and how they change.
 ghost use Rattle.std.specs.Prelude.{◌≡◌, ◌-◌, ◌*◌, ◌≤◌, true, false, replicate, is_some, Some, None, slice_set};
-ghost use Rattle.bench.specs.Calls.{begin_refusal, end_refusal, equal_benches, load_refusal, transform_refusal};
+ghost use Rattle.bench.specs.Calls.{begin_refusal, end_refusal, equal_benches, load_refusal, make_refusal, source_refusal, transform_refusal};
 ghost use Rattle.limits.specs.Faults.{told};
 ghost use Rattle.bench.specs.Model.{outline_of, places_in_lem};
 
@@ -71,6 +71,51 @@ impl Marks {
             return Err(Fault::NoVisit);
         }
         if !self.is_filled(places, from) {
+            return Err(Fault::EmptySheet);
+        }
+        Ok(())
+    }
+
+    // What a call refuses that reads what is in a place, with the faults of no such place and of an empty one: 5 or 6, 31,
+    // 34 or 35.
+    pub(crate) fn refuse_source(
+        &self,
+        places: usize,
+        place: usize,
+        no_place: Fault,
+        empty: Fault,
+    ) -> Result<(), Fault>
+        requires { places ≤ 12 }
+        ensures { result ≡ told (source_refusal no_place empty (outline_of self.now places) place) }
+    {
+        if place < 1 || place > places {
+            return Err(no_place);
+        }
+        if self.visit.is_none() {
+            return Err(Fault::NoVisit);
+        }
+        if !self.is_filled(places, place) {
+            return Err(empty);
+        }
+        Ok(())
+    }
+
+    // What a call refuses that makes a sheet of those in two places into a third: 5, 31, 34.
+    pub(crate) fn refuse_make(
+        &self,
+        places: usize,
+        one: usize,
+        other: usize,
+        to: usize,
+    ) -> Result<(), Fault>
+        requires { places ≤ 12 }
+        ensures { result ≡ told (make_refusal (outline_of self.now places) one other to) }
+    {
+        if other < 1 || other > places || to < 1 || to > places {
+            return Err(Fault::SheetPlace);
+        }
+        self.refuse_source(places, one, Fault::SheetPlace, Fault::EmptySheet)?;
+        if !self.is_filled(places, other) {
             return Err(Fault::EmptySheet);
         }
         Ok(())

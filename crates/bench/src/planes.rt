@@ -7,7 +7,7 @@ ghost use Rattle.morphology.specs.Sheets.{area};
 
 use elements::Element;
 use levels::level::Level;
-use morphology::{Operation, operate};
+use morphology::{Operation, Transform, operate};
 
 // Writes cells from a start on.
 pub(crate) fn store<L: Copy>(memory: &mut [L], start: usize, cells: &[L])
@@ -68,4 +68,43 @@ pub(crate) fn area_from<L: Level>(sheets: &[L], start: usize, cells: usize) -> u
     ensures { result ≡ area (take cells (drop start (map L.height sheets.now))) }
 {
     area_of(&sheets[start..start + cells])
+}
+
+// So many cells from a start on.
+pub(crate) fn part<T>(memory: &[T], start: usize, cells: usize) -> &[T]
+    requires { start + cells ≤ length memory.now }
+    ensures { result.now ≡ take cells (drop start memory.now) }
+{
+    &memory[start..start + cells]
+}
+
+// Writes what a transformation makes of the sheets from two starts to the cells from a third, by way of a working plane.
+pub(crate) fn make_place<T: Transform, L: Level>(
+    transform: &T,
+    sheets: &mut [L],
+    planes: &mut [L],
+    w: usize,
+    h: usize,
+    one: usize,
+    other: usize,
+    to: usize,
+)
+    requires sides { (1 ≤ w) × ((w ≤ 1024) × ((1 ≤ h) × (h ≤ 1024))) }
+    requires one { one + w * h ≤ length sheets.old }
+    requires other { other + w * h ≤ length sheets.old }
+    requires target { to + w * h ≤ length sheets.old }
+    requires plane { w * h ≤ length planes.old }
+    ensures made { map L.height sheets.new ≡ overwritten to (T.makes transform.now w h (take (w * h) (drop one (map L.height sheets.old))) (take (w * h) (drop other (map L.height sheets.old)))) (map L.height sheets.old) }
+    ensures length { length (T.makes transform.now w h (take (w * h) (drop one (map L.height sheets.old))) (take (w * h) (drop other (map L.height sheets.old)))) ≡ w * h }
+{
+    let cells = w * h;
+    let plane = &mut planes[0..cells];
+    let _ = transform.transform(
+        part(sheets, one, cells),
+        part(sheets, other, cells),
+        plane,
+        w,
+        h,
+    );
+    store(sheets, to, plane);
 }

@@ -27,6 +27,7 @@ pub fn begin<L: Level>(
     ensures sheets { rack.new.sheets.now ≡ rack.old.sheets.now }
     ensures planes { rack.new.planes.now ≡ rack.old.planes.now }
     ensures tallies { slate.new.tallies.now ≡ slate.old.tallies.now }
+    ensures weights { slate.new.weights ≡ slate.old.weights }
 {
     rack.marks.refuse_begin(&slate.marks, flat)?;
     rack.marks = rack.marks.with_visit(flat);
@@ -55,6 +56,9 @@ pub fn end<L: Level>(
         (λ _. (rack.new.sheets.now ≡ rack.old.sheets.now)
         × (rack.new.planes.now ≡ rack.old.planes.now)
         × (slate.new.tallies.now ≡ slate.old.tallies.now)) }
+    ensures weights { MatchResult result
+        (λ _. slate.new.weights ≡ replicate 12 0)
+        (λ _. slate.new.weights ≡ slate.old.weights) }
 {
     match rack.marks.refuse_end(&slate.marks, slip.flat) {
         Err(fault) => return Err(EndRefused { slip, fault }),
@@ -65,6 +69,7 @@ pub fn end<L: Level>(
     fill(slate.tallies, 0);
     rack.marks = rack.marks.cleared();
     slate.marks = slate.marks.cleared();
+    slate.weights = [0; 12];
     slip.flat = 0;
     Ok(())
 }

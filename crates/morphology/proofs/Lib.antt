@@ -4,3 +4,4 @@ pub mod Reach
 pub mod Extremes
 pub mod Sweeping
 pub mod Definitions
+pub mod Combining

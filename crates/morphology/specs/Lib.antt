@@ -1,3 +1,4 @@
 pub mod Sheets
 pub mod Erosion
 pub mod Passes
+pub mod Cells

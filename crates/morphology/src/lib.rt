@@ -6,6 +6,8 @@ mod operation;
 mod passes;
 mod runs;
 mod sweep;
+mod transform;
 
 pub use erosion::{dilate, erode, operate};
 pub use operation::Operation;
+pub use transform::{ByElement, CellByCell, Transform};

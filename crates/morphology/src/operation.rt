@@ -12,8 +12,8 @@ pub enum Operation {
 }
 
 impl Operation {
-    // The one of two levels that the operation keeps.
-    pub(crate) fn kept<L: Level>(self, x: L, y: L) -> L
+    /// The one of two levels that the operation keeps.
+    pub fn kept<L: Level>(self, x: L, y: L) -> L
         ensures { L.height result ≡ extreme self (L.height x) (L.height y) }
     {
         match self {

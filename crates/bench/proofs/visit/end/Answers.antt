@@ -13,6 +13,7 @@ returns-in-Err g c =
       rack_steps = refused_leaves _ _ _ _ refused;
       slate_steps = refused_leaves _ _ _ _ refused;
       memory = (refl, refl, refl);
+      weights = refl;
     }
 
 pub returns : goal.returns
@@ -41,4 +42,5 @@ returns g c =
         ap (map height) c.fill-2.ensures ∙ map-replicate height _ _ ∙ ap (replicate (length rack.planes.now)) c.lowest-2.ensures,
         c.fill-3.ensures,
       );
+      weights = refl;
     }

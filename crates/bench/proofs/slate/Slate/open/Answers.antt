@@ -9,4 +9,5 @@ returns c =
       state = as_opened_state c.opened_marks-marks.result 0 c.args.w c.args.h c.args.places _ _ _
           marks.w marks.h marks.places marks.visit marks.filled (marks.whole refl);
       memory = search rules;
+      weights = refl;
     }

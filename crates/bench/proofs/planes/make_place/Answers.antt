@@ -1,0 +1,27 @@
+use Rattle.std.proofs.Common.{◌≡◌, ◌-◌, ◌*◌, map, length, take, drop, sym, ap, ◌∙◌, arith}
+use Rattle.std.proofs.lemmas.List.{length-map, length-take, length-drop}
+use Rattle.std.proofs.lemmas.Result.{MatchResult-at_ok}
+use Rattle.bench.specs.Model.{overwritten}
+use Rattle.bench.proofs.Memory.{heights_of_cells, map-overwritten, two_sheets_accepted}
+use Rattle.bench.proofs.planes.make_place.Goals as goal
+
+pub returns : goal.returns
+returns g c =
+    let height = g.L.Level.height in
+    let cells = c.args.w * c.args.h in
+    let sheets = c.args.sheets.now in
+    let makes = g.T.Transform.makes c.args.transform.now c.args.w c.args.h in
+    let sides = c.requires.sides in
+    let one_long : length c.part.result.now ≡ cells = ap length c.part.ensures ∙ simp (length-take, length-drop) (omega arith) in
+    let other_long : length c.part-2.result.now ≡ cells = ap length c.part-2.ensures ∙ simp (length-take, length-drop) (omega arith) in
+    let plane_long : length (take (cells - 0) (drop 0 c.args.planes.now)) ≡ cells = simp (length-take, length-drop) (omega arith) in
+    let accepted = two_sheets_accepted c.args.w c.args.h _ _ _ sides.0 sides.1.0 sides.1.1.0 sides.1.1.1 one_long other_long plane_long in
+    let one = ap (map height) c.part.ensures ∙ heights_of_cells height c.args.one cells sheets in
+    let other = ap (map height) c.part-2.ensures ∙ heights_of_cells height c.args.other cells sheets in
+    let made : map height c.transform.new.to ≡ makes (take cells (drop c.args.one (map height sheets))) (take cells (drop c.args.other (map height sheets))) =
+    MatchResult-at_ok (λ _. map height c.transform.new.to ≡ makes (map height c.part.result.now) (map height c.part-2.result.now)) _ tt (c.transform.ensures.answers ∙ accepted) c.transform.ensures.memory
+    ∙ (λ i. makes (one i) (other i)) in
+    record {
+      made = ap (map height) c.store.ensures ∙ map-overwritten height c.args.to _ sheets ∙ ap (λ new. overwritten c.args.to new (map height sheets)) made;
+      length = sym (ap length made) ∙ length-map _ _ ∙ c.transform.auto.to ∙ plane_long;
+    }

@@ -1,0 +1,42 @@
+// The calls on the tallies of a slate.
+ghost use Rattle.std.specs.Prelude.{◌≡◌, ◌*◌, ◌≤◌, length, Some, None, MatchResult};
+ghost use Rattle.bench.specs.Calls.{tally_refusal};
+ghost use Rattle.bench.specs.Model.{slate_outline, slate_state, tally_weight};
+
+use crate::planes::part;
+use crate::slate::Slate;
+use limits::Fault;
+
+impl Slate<'_> {
+    /// The width and height of the slate's tallies and the number of its places; all 0 where it was opened with wrong sizes.
+    pub fn sizes(&self) -> (usize, usize, usize)
+        ensures value { result ≡ ((slate_outline self.now).w, (slate_outline self.now).h, (slate_outline self.now).places) }
+        ensures bound { (result.0 ≤ 1024) × (result.1 ≤ 1024) }
+    {
+        let marks = self.marks;
+        let places = marks.places_in(0, self.tallies.len(), 0);
+        (marks.w, marks.h, places)
+    }
+
+    /// The numbers and the weight of the tally in a place.
+    /// Refuses a place that the slate has not (6), no visit open on the slate (31), and a place that is empty (35).
+    pub fn tally(&self, place: usize) -> Result<(&[i32], u16), Fault>
+        ensures answers { MatchResult result
+            (λ tally. (tally_refusal (slate_outline self.now) place ≡ None)
+            × (tally.0.now ≡ (slate_state self.now).content place)
+            × (tally.1 ≡ tally_weight self.now place))
+            (λ fault. tally_refusal (slate_outline self.now) place ≡ Some fault) }
+        ensures sides { MatchResult result
+            (λ tally. length tally.0.now ≡ (slate_outline self.now).w * (slate_outline self.now).h)
+            (λ _. Unit {0}) }
+    {
+        let marks = self.marks;
+        let places = marks.places_in(0, self.tallies.len(), 0);
+        marks.refuse_source(places, place, Fault::TallyPlace, Fault::EmptyTally)?;
+        let cells = marks.cells();
+        Ok((
+            part(self.tallies, (place - 1) * cells, cells),
+            self.weights[place - 1],
+        ))
+    }
+}

@@ -1,0 +1,81 @@
+// What is told of the levels of a sheet, and its mask at a height.
+ghost use Rattle.std.specs.Prelude.{◌≡◌, ◌≤◌, map, length, if◌then◌else◌, nat_le};
+ghost use Rattle.calls.specs.Told.{extreme_spot, spot_numbers};
+ghost use Rattle.levels.specs.Mask.{mask_height};
+ghost use Rattle.morphology.specs.Cells.{cut, extreme_of, first_place};
+ghost use Rattle.morphology.specs.declared.operation.Operation.TheVariants.{Erosion, Dilation};
+
+use crate::spot::Spot;
+use levels::Mask;
+use levels::level::Level;
+use morphology::Operation;
+
+// The mask level of a level at a height: yes exactly where its height is at least that.
+fn mask_of<L: Level>(level: L, height: u32) -> Mask
+    ensures { mask_height result ≡ (if nat_le height (L.height level) then 1 else 0) }
+{
+    if level.height() >= height {
+        Mask::Yes
+    } else {
+        Mask::No
+    }
+}
+
+// Writes the mask of a sheet at a height.
+pub(crate) fn write_mask<L: Level>(sheet: &[L], height: u32, mask: &mut [Mask])
+    requires { length mask.old ≡ length sheet.now }
+    ensures { map mask_height mask.new ≡ cut height (map L.height sheet.now) }
+{
+    for k in 0..mask.len() {
+        mask[k] = mask_of(sheet[k], height);
+    }
+}
+
+// The level of a sheet's least height for erosion, of its greatest for dilation.
+fn extreme<L: Level>(op: Operation, sheet: &[L]) -> L
+    requires { 1 ≤ length sheet.now }
+    ensures { L.height result ≡ extreme_of op (map L.height sheet.now) }
+{
+    let mut extreme = sheet[0];
+    for level in sheet {
+        extreme = op.kept(extreme, *level);
+    }
+    extreme
+}
+
+// The first place, in reading order, at which a sheet has this level; its length where there is none.
+fn place_of<L: Level>(sheet: &[L], level: L) -> usize
+    ensures { result ≡ first_place (L.height level) (map L.height sheet.now) }
+{
+    for (place, other) in sheet.iter().enumerate() {
+        if other.at_most(level) && level.at_most(*other) {
+            return place;
+        }
+    }
+    sheet.len()
+}
+
+// The first spot of a sheet's least level for erosion, of its greatest for dilation.
+fn spot_of<L: Level>(op: Operation, sheet: &[L], w: usize) -> Spot<L>
+    requires { (1 ≤ length sheet.now) × (1 ≤ w) }
+    ensures { spot_numbers L.height result ≡ extreme_spot op w (map L.height sheet.now) }
+{
+    let level = extreme(op, sheet);
+    let place = place_of(sheet, level);
+    Spot {
+        column: place % w,
+        row: place / w,
+        level,
+    }
+}
+
+// The first spots of a sheet's least and of its greatest level.
+pub(crate) fn spots_of<L: Level>(sheet: &[L], w: usize) -> (Spot<L>, Spot<L>)
+    requires { (1 ≤ length sheet.now) × (1 ≤ w) }
+    ensures least { spot_numbers L.height result.0 ≡ extreme_spot Erosion w (map L.height sheet.now) }
+    ensures greatest { spot_numbers L.height result.1 ≡ extreme_spot Dilation w (map L.height sheet.now) }
+{
+    let least = spot_of(Operation::Erosion, sheet, w);
+    let greatest = spot_of(Operation::Dilation, sheet, w);
+    (least, greatest)
+}

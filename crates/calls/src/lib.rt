@@ -1,0 +1,11 @@
+// The calls on the sheets and tallies of a bench: those that make a sheet, and those that tell or copy out what is there.
+#![tactic(auto)]
+
+mod cells;
+mod made;
+mod spot;
+mod told;
+
+pub use made::{join, meet};
+pub use spot::Spot;
+pub use told::{cut, show_sheet, show_tally, span};

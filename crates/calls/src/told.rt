@@ -1,0 +1,95 @@
+// The calls that tell or copy out what is on a bench, which stays as it is.
+ghost use Rattle.std.specs.Prelude.{◌≡◌, map, length, MatchResult};
+ghost use Rattle.bench.specs.Model.{rack_outline, rack_state, slate_outline, slate_state, tally_weight};
+ghost use Rattle.calls.specs.Told.{cut_refusal, show_sheet_refusal, show_tally_refusal, span_answer, spots_told, SpotsAreFirstExtremes};
+ghost use Rattle.levels.specs.Mask.{mask_height};
+ghost use Rattle.limits.specs.Faults.{tells, told};
+ghost use Rattle.morphology.specs.Cells.{cut};
+
+use crate::cells::{spots_of, write_mask};
+use crate::spot::Spot;
+use bench::{Rack, Slate};
+use levels::Mask;
+use levels::level::Level;
+use limits::Fault;
+
+/// Tells the span of the sheet in a place: the spots of its least and of its greatest level, each the first in reading order.
+/// Refuses a place that the rack has not (5), no visit open (31), and a place that is empty (34).
+pub fn span<L: Level>(rack: &Rack<'_, '_, L>, place: usize) -> Result<(Spot<L>, Spot<L>), Fault>
+    ensures answers { spots_told L.height result ≡ span_answer (rack_state L.height rack.now) place }
+    ensures spots { SpotsAreFirstExtremes }
+{
+    let sheet = rack.sheet(place)?;
+    let (w, _, _) = rack.sizes();
+    Ok(spots_of(sheet, w))
+}
+
+/// Copies the sheet in a place to a list of w × h levels.
+/// Refuses a list of another length (4), a place that the rack has not (5), no visit open (31), and a place that is
+/// empty (34), and then leaves the list as it was.
+pub fn show_sheet<L: Level>(
+    rack: &Rack<'_, '_, L>,
+    place: usize,
+    list: &mut [L],
+) -> Result<(), Fault>
+    ensures answers { result ≡ told (show_sheet_refusal (rack_outline rack.now) place (length list.old)) }
+    ensures list { MatchResult result
+        (λ _. map L.height list.new ≡ (rack_state L.height rack.now).content place)
+        (λ _. list.new ≡ list.old) }
+{
+    let (w, h, _) = rack.sizes();
+    if list.len() != w * h {
+        return Err(Fault::Length);
+    }
+    let sheet = rack.sheet(place)?;
+    list.copy_from_slice(sheet);
+    Ok(())
+}
+
+/// Copies the tally in a place to a list of w × h numbers, and tells its weight.
+/// Refuses a list of another length (4), a place that the slate has not (6), no visit open on the slate (31), and a place
+/// that is empty (35), and then leaves the list as it was.
+pub fn show_tally(slate: &Slate<'_>, place: usize, list: &mut [i32]) -> Result<u16, Fault>
+    ensures answers { result ≡ tells (show_tally_refusal (slate_outline slate.now) place (length list.old)) (tally_weight slate.now place) }
+    ensures list { MatchResult result
+        (λ _. list.new ≡ (slate_state slate.now).content place)
+        (λ _. list.new ≡ list.old) }
+{
+    let (w, h, _) = slate.sizes();
+    if list.len() != w * h {
+        return Err(Fault::Length);
+    }
+    let (cells, weight) = slate.tally(place)?;
+    list.copy_from_slice(cells);
+    Ok(weight)
+}
+
+/// Writes the mask of the sheet in a place at a height, 1 to the kind's top, to a list of w × h mask levels: yes exactly
+/// where the sheet's height is at least that.
+/// Refuses a list of another length (4), a place that the rack has not (5), a height outside its limits (9), no visit
+/// open (31), and a place that is empty (34), and then leaves the list as it was.
+pub fn cut<L: Level>(
+    rack: &Rack<'_, '_, L>,
+    place: usize,
+    height: u32,
+    mask: &mut [Mask],
+) -> Result<(), Fault>
+    ensures answers { result ≡ told (cut_refusal L.top (rack_outline rack.now) place height (length mask.old)) }
+    ensures list { MatchResult result
+        (λ _. map mask_height mask.new ≡ cut height ((rack_state L.height rack.now).content place))
+        (λ _. mask.new ≡ mask.old) }
+{
+    let (w, h, places) = rack.sizes();
+    if mask.len() != w * h {
+        return Err(Fault::Length);
+    }
+    if place < 1 || place > places {
+        return Err(Fault::SheetPlace);
+    }
+    if height < 1 || height > L::highest().height() {
+        return Err(Fault::FactorOrHeight);
+    }
+    let sheet = rack.sheet(place)?;
+    write_mask(sheet, height, mask);
+    Ok(())
+}

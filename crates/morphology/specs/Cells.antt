@@ -1,0 +1,46 @@
+-- What is made or told of sheets cell by cell: meet, join, cut, and the first places of the least and the greatest height. Assumes nothing.
+use Rattle.std.specs.Prelude.{ℕ, suc, ◌*◌, min, max, cond, ◌&&◌, List, [], ◌∷◌, map, Ok, Err, Result, ◌==◌, nat_le}
+use Rattle.limits.specs.declared.fault.Fault.{Fault}
+use Rattle.limits.specs.declared.fault.Fault.TheVariants.{Side, Length}
+use Rattle.limits.specs.Sizes.{lawful_side}
+use Rattle.morphology.specs.Erosion.{least, greatest}
+use Rattle.morphology.specs.declared.operation.Operation.{Operation}
+use Rattle.morphology.specs.declared.operation.Operation.TheVariants.{Erosion, Dilation}
+
+-- An operation on two lists to a third: both sides are lawful and every list has w × h levels, or it refuses.
+abbrev pub two_sheets_answer : ℕ → ℕ → ℕ → ℕ → ℕ → Result (Unit {0}) Fault
+two_sheets_answer w h one other to =
+    cond (lawful_side w && lawful_side h) (cond (one == w * h && other == w * h && to == w * h) (Ok tt) (Err Length)) (Err Side)
+
+-- two sheets of the same sides, taken together cell by cell
+abbrev pub cell_by_cell : (ℕ → ℕ → ℕ) → List ℕ → List ℕ → List ℕ
+cell_by_cell op [] g = []
+cell_by_cell op (x ∷ f) [] = []
+cell_by_cell op (x ∷ f) (y ∷ g) = op x y ∷ cell_by_cell op f g
+
+-- the meet takes the lower of two sheets, cell by cell
+abbrev pub met : List ℕ → List ℕ → List ℕ
+met f g = cell_by_cell min f g
+
+-- the join takes the higher
+abbrev pub joined : List ℕ → List ℕ → List ℕ
+joined f g = cell_by_cell max f g
+
+-- meet for what erosion keeps of two heights, join for what dilation keeps
+abbrev pub combined : Operation → List ℕ → List ℕ → List ℕ
+combined Erosion = met
+combined Dilation = joined
+
+-- cutting at height a gives a mask: yes (1) exactly where the height is at least a, and else no (0)
+abbrev pub cut : ℕ → List ℕ → List ℕ
+cut a f = map (λ x. cond (nat_le a x) 1 0) f
+
+-- the first place, in reading order, at which a sheet has this height
+abbrev pub first_place : ℕ → List ℕ → ℕ
+first_place height [] = 0
+first_place height (x ∷ f) = cond (x == height) 0 (suc (first_place height f))
+
+-- the least height of a sheet for erosion, the greatest for dilation
+abbrev pub extreme_of : Operation → List ℕ → ℕ
+extreme_of Erosion = least
+extreme_of Dilation = greatest

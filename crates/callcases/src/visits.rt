@@ -1,5 +1,5 @@
 // The visits of a bench: the slip is kept between the calls.
-ghost use Rattle.std.specs.Prelude.{◌≡◌, None};
+ghost use Rattle.std.specs.Prelude.{None};
 ghost use Rattle.bench.specs.Model.{rack_outline, slate_outline};
 ghost use Rattle.callcases.specs.Visits.{Holds};
 

@@ -1,5 +1,5 @@
 // The reader of element cards: a count of records, and then a chain of offsets through them.
-ghost use Rattle.std.specs.Prelude.{◌≡◌, ◌+◌, ◌*◌, ◌^◌, ◌<◌, ◌≤◌, true, false, length, set, Some, None, Ok, Err, MatchResult, slice_set};
+ghost use Rattle.std.specs.Prelude.{◌≡◌, ◌+◌, ◌*◌, ◌^◌, ◌<◌, ◌≤◌, true, false, length, Some, None, Ok, Err, MatchResult, slice_set};
 ghost use Rattle.std.specs.Int.{w8};
 ghost use Rattle.std.proofs.Common.{to_z};
 ghost use Rattle.elements.specs.Cards.{card_fault_number, card_fault_place, card_flags, end_fault, far, far_fault, next_of, record_fault, record_place, records, sized};

@@ -7,6 +7,6 @@ mod cards;
 #[cfg(test)]
 mod files;
 #[cfg(test)]
-mod lines;
-#[cfg(test)]
 mod heat_readings;
+#[cfg(test)]
+mod lines;

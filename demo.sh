@@ -1,13 +1,13 @@
 #!/usr/bin/env bash
 # Builds walljob, proving it first, and shows a worked job: each line beside what is printed for it.
 set -eu
-cd "$(dirname "$0")"
-rt check walljob > /dev/null
-program=$PWD/target/bin/walljob
+cd "$(dirname "$0")/crates/walljob"
+rt run < /dev/null > /dev/null 2>&1
+program=$PWD/out/walljob
 job=$(mktemp -d)
 trap 'rm -rf "$job"' EXIT
-cp crates/walljob/data/* "$job"
-cp crates/walljob/stdin "$job/lines"
+cp data/* "$job"
+cp stdin "$job/lines"
 cd "$job"
 "$program" < lines > printed
 paste lines printed

@@ -1,11 +1,15 @@
 #!/usr/bin/env bash
-# Passes the tests: a program that the types must reject, the toolchain's gate over all crates, and the built walljob on
-# damaged files. The gate's closing line comes last.
+# Passes the tests: the toolchain's gate over all crates, then a program that the types must reject, and the built walljob
+# on damaged files. Fails too where the gate could not try a must-fail edit. The gate's closing line comes last.
 set -euo pipefail
 cd "$(dirname "$0")"
-tests/refused.sh
 said=$(mktemp)
 trap 'rm -f "$said"' EXIT
 rt ci | tee "$said"
+if grep -Eq '^rt: ok.*, [1-9][0-9]* bad' "$said"; then
+    echo 'test.sh: a must-fail edit no longer fits the code'
+    exit 1
+fi
+tests/refused.sh
 tests/files.sh
 tail -n 1 "$said"

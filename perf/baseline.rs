@@ -1,5 +1,6 @@
 // Plain Rust versions of what perf/timing.rt.txt times: erosion and dilation of the same sheets by the 3 × 3 square,
-// once in passes, one for each offset over runs of contiguous cells, and once cell by cell.
+// once in passes, one for each offset over runs of contiguous cells, and once cell by cell; and the meet and join of two
+// sheets, once over a copy of the first by iterators, and once by indices.
 // Its arguments are the number of repetitions, the side of the sheet, and how many cells lie between the list that is
 // read and the list that is written.
 use std::time::Instant;
@@ -122,6 +123,30 @@ fn by_cells<L: Level>(op: Operation, from: &[L], to: &mut [L], w: usize, h: usiz
     }
 }
 
+// The meet or join of two sheets: a copy of one, and each cell with the other's at its place.
+fn zipped<L: Level>(kept: impl Fn(L, L) -> L, one: &[L], other: &[L], to: &mut [L]) {
+    to.copy_from_slice(one);
+    for (cell, level) in to.iter_mut().zip(other) {
+        *cell = kept(*cell, *level);
+    }
+}
+
+fn indexed<L: Level>(kept: impl Fn(L, L) -> L, one: &[L], other: &[L], to: &mut [L]) {
+    for place in 0..to.len() {
+        to[place] = kept(one[place], other[place]);
+    }
+}
+
+#[inline(never)]
+fn combine<L: Level>(op: Operation, by_index: bool, one: &[L], other: &[L], to: &mut [L]) {
+    match (op, by_index) {
+        (Operation::Erosion, false) => zipped(L::min, one, other, to),
+        (Operation::Dilation, false) => zipped(L::max, one, other, to),
+        (Operation::Erosion, true) => indexed(L::min, one, other, to),
+        (Operation::Dilation, true) => indexed(L::max, one, other, to),
+    }
+}
+
 // A number that depends on the height of every cell and on its place.
 fn checksum<L: Level>(cells: &[L]) -> u64 {
     cells.iter().fold(0, |sum: u64, &cell| sum.wrapping_mul(31).wrapping_add(cell.height()))
@@ -140,18 +165,23 @@ fn time<L: Level>(label: &str, turns: usize, from: &[L], to: &mut [L], run: impl
     println!("{label} {best} {sum:016x}");
 }
 
-// Times both operations at a level kind, on lists that are parts of one memory.
+// Times all operations at a level kind, on lists that are parts of one memory.
 fn time_kind<L: Level>(kind: &str, task: Task, level: impl Fn(u32) -> L) {
     let Task { turns, side, gap } = task;
     let cells = side * side;
     let mut random = Random { state: 1 };
     let mut memory: Vec<L> = (0..cells).map(|_| level(random.next())).collect();
+    let other: Vec<L> = (0..cells).map(|_| level(random.next())).collect();
     memory.resize(cells + gap + cells, L::default());
     let (source, to) = memory.split_at_mut(cells + gap);
     let from = &source[..cells];
     for (name, op) in [("erosion", Operation::Erosion), ("dilation", Operation::Dilation)] {
         time(&format!("{kind} {name} passes"), turns, from, to, |from, to| by_passes(op, from, to, side, side));
         time(&format!("{kind} {name} cells"), turns, from, to, |from, to| by_cells(op, from, to, side, side));
+    }
+    for (name, op) in [("meet", Operation::Erosion), ("join", Operation::Dilation)] {
+        time(&format!("{kind} {name} passes"), turns, from, to, |from, to| combine(op, false, from, &other, to));
+        time(&format!("{kind} {name} cells"), turns, from, to, |from, to| combine(op, true, from, &other, to));
     }
 }
 

@@ -1,8 +1,9 @@
 #!/usr/bin/env bash
-# Runs the built walljob on files that are missing, empty or full of NULs, and on inputs at the limit of 65,536 bytes.
-# It is run after the gate has proved and built the program.
+# Builds walljob, and runs it on files that are missing, empty or full of NULs, and on inputs at the limit of 65,536 bytes.
 set -eu
-program=$(cd "$(dirname "$0")/.." && pwd)/target/bin/walljob
+cd "$(dirname "$0")/../crates/walljob"
+rt run < /dev/null > /dev/null 2>&1
+program=$PWD/out/walljob
 room=$(mktemp -d)
 trap 'rm -rf "$room"' EXIT
 cd "$room"

@@ -1,7 +1,7 @@
 // The program callcases: makes the calls that work cell by cell at every level kind, and prints what each answers.
 #![tactic(auto)]
 
-mod calls;
+mod cases;
 mod memory;
 mod readouts;
 mod sequences;

@@ -1,5 +1,5 @@
 // Sequences of calls on a rack and its slate, and what they leave in the memory.
-use crate::calls::{Call, Sizes, make_on};
+use crate::cases::{Call, Sizes, make_on};
 use crate::memory::{filled, show_memory};
 use elements::Element;
 use levels::level::Level;

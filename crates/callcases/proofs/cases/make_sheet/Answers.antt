@@ -1,5 +1,5 @@
 use Rattle.callcases.proofs.Slips.{stored-shared}
-use Rattle.callcases.proofs.calls.make_sheet.Goals as goal
+use Rattle.callcases.proofs.cases.make_sheet.Goals as goal
 
 pub returns-in-Load : goal.returns-in-Load
 returns-in-Load g c = stored-shared _ _ _ _ _ c.load.ensures.steps

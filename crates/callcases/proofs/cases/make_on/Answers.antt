@@ -1,7 +1,7 @@
 use Rattle.std.proofs.Common.{length}
 use Rattle.bench.specs.Model.{rack_outline, rack_state, slate_outline, slate_state}
 use Rattle.callcases.proofs.Slips.{free_holds, opened_free}
-use Rattle.callcases.proofs.calls.make_on.Goals as goal
+use Rattle.callcases.proofs.cases.make_on.Goals as goal
 
 pub make_all-requires : goal.make_all-requires
 make_all-requires g c =

@@ -2,7 +2,11 @@
 # Builds walljob, proving it first, and shows a worked job: each line beside what is printed for it.
 set -eu
 cd "$(dirname "$0")/crates/walljob"
-rt run < /dev/null > /dev/null 2>&1
+if ! said=$(rt run < /dev/null 2>&1); then
+    printf '%s\n' "$said"
+    echo 'demo.sh: walljob was not built'
+    exit 1
+fi
 program=$PWD/out/walljob
 job=$(mktemp -d)
 trap 'rm -rf "$job"' EXIT

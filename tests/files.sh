@@ -2,7 +2,11 @@
 # Builds walljob, and runs it on files that are missing, empty or full of NULs, and on inputs at the limit of 65,536 bytes.
 set -eu
 cd "$(dirname "$0")/../crates/walljob"
-rt run < /dev/null > /dev/null 2>&1
+if ! said=$(rt run < /dev/null 2>&1); then
+    printf '%s\n' "$said"
+    echo 'files.sh: walljob was not built'
+    exit 1
+fi
 program=$PWD/out/walljob
 room=$(mktemp -d)
 trap 'rm -rf "$room"' EXIT

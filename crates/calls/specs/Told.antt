@@ -1,5 +1,5 @@
 -- The calls that tell or copy out what is on a bench: what each refuses, in the order of its table, and what it tells. Assumes nothing.
-use Rattle.std.specs.Prelude.{◌≡◌, ℕ, ◌+◌, ◌*◌, ◌/◌, ◌%◌, ◌<◌, ◌≤◌, not, ◌&&◌, ◌≢◌, List, length, Ok, Err, Option, Result, ◌==◌, nat_le, slice_index, slice_index_or}
+use Rattle.std.specs.Prelude.{◌≡◌, ℕ, ◌+◌, ◌*◌, ◌/◌, ◌%◌, ◌<◌, ◌≤◌, not, ◌&&◌, ◌≢◌, List, length, Ok, Err, Option, Result, ◌==◌, nat_le, slice_index}
 use Rattle.limits.specs.declared.fault.Fault.{Fault}
 use Rattle.limits.specs.declared.fault.Fault.TheVariants.{Length, SheetPlace, FactorOrHeight}
 use Rattle.limits.specs.Faults.{first, tells}
@@ -39,7 +39,7 @@ extreme_spot op w f = let p = first_place (extreme_of op f) f in (p % w, p / w, 
 pub record FirstExtreme (op : Operation) (w : ℕ) (f : List ℕ) (spot : ℕ × ℕ × ℕ) : Type 0 where
   pub column : spot.0 < w
   pub on_sheet : spot.1 * w + spot.0 < length f
-  pub there : slice_index_or f (spot.1 * w + spot.0) 0 ≡ spot.2
+  pub there : slice_index f (spot.1 * w + spot.0) ≡ spot.2
   pub extreme : (k : ℕ) → k < length f → extreme op spot.2 (slice_index f k) ≡ spot.2
   pub first : (k : ℕ) → k < spot.1 * w + spot.0 → slice_index f k ≢ spot.2
 

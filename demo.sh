@@ -1,17 +1,12 @@
 #!/usr/bin/env bash
-# Builds walljob, proving it first, and shows a worked job: each line beside what is printed for it.
+# Builds walljob, and shows a worked job: each line beside what is printed for it.
 set -eu
-cd "$(dirname "$0")/crates/walljob"
-if ! said=$(rt run < /dev/null 2>&1); then
-    printf '%s\n' "$said"
-    echo 'demo.sh: walljob was not built'
-    exit 1
-fi
-program=$PWD/out/walljob
+cd "$(dirname "$0")"
+program=$(tests/build.sh)
 job=$(mktemp -d)
 trap 'rm -rf "$job"' EXIT
-cp data/* "$job"
-cp stdin "$job/lines"
+cp crates/walljob/data/* "$job"
+cp crates/walljob/stdin "$job/lines"
 cd "$job"
 "$program" < lines > printed
 paste lines printed

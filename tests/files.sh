@@ -1,13 +1,7 @@
 #!/usr/bin/env bash
 # Builds walljob, and runs it on files that are missing, empty or full of NULs, and on inputs at the limit of 65,536 bytes.
 set -eu
-cd "$(dirname "$0")/../crates/walljob"
-if ! said=$(rt run < /dev/null 2>&1); then
-    printf '%s\n' "$said"
-    echo 'files.sh: walljob was not built'
-    exit 1
-fi
-program=$PWD/out/walljob
+program=$("$(dirname "$0")/build.sh")
 room=$(mktemp -d)
 trap 'rm -rf "$room"' EXIT
 cd "$room"

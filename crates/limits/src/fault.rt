@@ -2,39 +2,39 @@
 ghost use Rattle.std.specs.Prelude.{◌≡◌};
 ghost use Rattle.limits.specs.Faults.{fault_number};
 
-/// Why a call refused.
+/// Why a call refused. The discriminant is the number of the refusal.
 #[derive(Clone, Copy, PartialEq)]
 pub enum Fault {
     /// A side is not 1 to 1,024.
-    Side,
+    Side = 1,
     /// The number of places is not 1 to 12.
-    Places,
+    Places = 2,
     /// The memory has not the length that sides and places ask for.
-    Memory,
+    Memory = 3,
     /// A list has not as many levels as a sheet has cells.
-    Length,
+    Length = 4,
     /// No sheet place has this number.
-    SheetPlace,
+    SheetPlace = 5,
     /// No tally place has this number.
-    TallyPlace,
+    TallyPlace = 6,
     /// A cut height is not 1 to the kind's top. (A factor outside its limits has the same number.)
-    FactorOrHeight,
+    FactorOrHeight = 9,
     /// No built-in element has this number.
-    BuiltIn,
+    BuiltIn = 10,
     /// A flat number is not 1 to 9,999.
-    Flat,
+    Flat = 11,
     /// No visit is open on the rack, or on the slate where it is taken alone.
-    NoVisit,
+    NoVisit = 31,
     /// A visit is open on the rack or on the slate.
-    VisitOpen,
+    VisitOpen = 32,
     /// The slip is of another flat than the open visit.
-    OtherFlat,
+    OtherFlat = 33,
     /// The source place holds no sheet.
-    EmptySheet,
+    EmptySheet = 34,
     /// The source place holds no tally.
-    EmptyTally,
+    EmptyTally = 35,
     /// Rack and slate differ in their sides or in the flat of their visits.
-    Unequal,
+    Unequal = 37,
 }
 
 impl Fault {
@@ -42,22 +42,6 @@ impl Fault {
     pub fn number(self) -> u32
         ensures { result ≡ fault_number self }
     {
-        match self {
-            Fault::Side => 1,
-            Fault::Places => 2,
-            Fault::Memory => 3,
-            Fault::Length => 4,
-            Fault::SheetPlace => 5,
-            Fault::TallyPlace => 6,
-            Fault::FactorOrHeight => 9,
-            Fault::BuiltIn => 10,
-            Fault::Flat => 11,
-            Fault::NoVisit => 31,
-            Fault::VisitOpen => 32,
-            Fault::OtherFlat => 33,
-            Fault::EmptySheet => 34,
-            Fault::EmptyTally => 35,
-            Fault::Unequal => 37,
-        }
+        self as u32
     }
 }

@@ -2,7 +2,9 @@
 #![tactic(auto)]
 
 mod fault;
+mod sides;
 mod sizes;
 
 pub use fault::Fault;
+pub use sides::Sides;
 pub use sizes::{check_rack, check_sizes, check_slate};

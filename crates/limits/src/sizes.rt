@@ -4,6 +4,7 @@ ghost use Rattle.limits.specs.Faults.{told};
 ghost use Rattle.limits.specs.Sizes.{sizes_refusal};
 
 use crate::fault::Fault;
+use crate::sides::Sides;
 
 /// Whether memory of `len` cells serves that many places of w × h cells, with `working` working planes behind them.
 /// Refuses a side that is not 1 to 1,024 (1), a number of places that is not 1 to 12 (2), and then a length that is not
@@ -12,13 +13,11 @@ pub fn check_sizes(working: u8, w: usize, h: usize, places: usize, len: usize) -
     ensures answers { result ≡ told (sizes_refusal working w h places len) }
     ensures sizes { OnOk result (len ≡ (places + working) * (w * h)) }
 {
-    if w < 1 || w > 1024 || h < 1 || h > 1024 {
-        return Err(Fault::Side);
-    }
+    let sides = Sides::new(w, h)?;
     if places < 1 || places > 12 {
         return Err(Fault::Places);
     }
-    if len != (places + usize::from(working)) * (w * h) {
+    if len != (places + usize::from(working)) * sides.cells() {
         return Err(Fault::Memory);
     }
     Ok(())

@@ -24,7 +24,7 @@ impl Sides {
             (λ sides. (sides.w ≡ w) × (sides.h ≡ h))
             (λ fault. (fault ≡ Side) × ((lawful_side w && lawful_side h) ≡ false)) }
     {
-        if w < 1 || w > 1024 || h < 1 || h > 1024 {
+        if !(1..=1024).contains(&w) || !(1..=1024).contains(&h) {
             return Err(Fault::Side);
         }
         Ok(Sides { w, h })

@@ -14,7 +14,7 @@ pub fn check_sizes(working: u8, w: usize, h: usize, places: usize, len: usize) -
     ensures sizes { OnOk result (len ≡ (places + working) * (w * h)) }
 {
     let sides = Sides::new(w, h)?;
-    if places < 1 || places > 12 {
+    if !(1..=12).contains(&places) {
         return Err(Fault::Places);
     }
     if len != (places + usize::from(working)) * sides.cells() {

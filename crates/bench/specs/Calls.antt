@@ -59,7 +59,7 @@ operate_leaves op s offsets from to =
     (stored s to (operated op s.outline.w s.outline.h offsets (s.content from))) s
 
 -- and the heights in memory after it
-abbrev pub operate_writes : Operation → Marks → List (ℤ × ℤ) → ℕ → ℕ → List ℕ → List ℕ
+abbrev pub operate_writes : {T : Type 0} → Operation → Marks T → List (ℤ × ℤ) → ℕ → ℕ → List ℕ → List ℕ
 operate_writes op m offsets from to heights =
     let cells = m.w * m.h in
     overwritten (place_start cells to) (operated op m.w m.h offsets (cells_of cells from heights)) heights
@@ -93,7 +93,7 @@ abbrev pub make_leaves : (ℕ → ℕ → List ℕ → List ℕ → List ℕ) �
 make_leaves made s one other to =
     unless (make_refusal s.outline one other to) (stored s to (made s.outline.w s.outline.h (s.content one) (s.content other))) s
 
-abbrev pub make_writes : (ℕ → ℕ → List ℕ → List ℕ → List ℕ) → Marks → ℕ → ℕ → ℕ → List ℕ → List ℕ
+abbrev pub make_writes : {T : Type 0} → (ℕ → ℕ → List ℕ → List ℕ → List ℕ) → Marks T → ℕ → ℕ → ℕ → List ℕ → List ℕ
 make_writes made m one other to heights =
     overwritten (place_start (m.w * m.h) to) (made m.w m.h (sheet_in m heights one) (sheet_in m heights other)) heights
 

@@ -13,9 +13,8 @@ impl Slate<'_> {
         ensures value { result ≡ ((slate_outline self.now).w, (slate_outline self.now).h, (slate_outline self.now).places) }
         ensures bound { (result.0 ≤ 1024) × (result.1 ≤ 1024) }
     {
-        let marks = self.marks;
-        let places = marks.places_in(0, self.tallies.len(), 0);
-        (marks.w, marks.h, places)
+        let marks = &self.marks;
+        (marks.w, marks.h, marks.places)
     }
 
     /// The numbers and the weight of the tally in a place.
@@ -30,13 +29,9 @@ impl Slate<'_> {
             (λ tally. length tally.0.now ≡ (slate_outline self.now).w * (slate_outline self.now).h)
             (λ _. Unit {0}) }
     {
-        let marks = self.marks;
-        let places = marks.places_in(0, self.tallies.len(), 0);
-        marks.refuse_source(places, place, Fault::TallyPlace, Fault::EmptyTally)?;
+        let marks = &self.marks;
+        let weight = marks.source(place, Fault::TallyPlace, Fault::EmptyTally)?;
         let cells = marks.cells();
-        Ok((
-            part(self.tallies, (place - 1) * cells, cells),
-            self.weights[place - 1],
-        ))
+        Ok((part(self.tallies, (place - 1) * cells, cells), weight))
     }
 }

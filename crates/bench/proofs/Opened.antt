@@ -1,5 +1,5 @@
 -- A rack or a slate whose marks are as they open. Assumes nothing.
-use Rattle.std.proofs.Common.{◌≡◌, ℕ, ◌-◌, ◌*◌, Bool, true, false, cond, ◌&&◌, List, [], get_or, replicate, is_some, Some, None, Option, refl, ap, ◌∙◌, inl, inr}
+use Rattle.std.proofs.Common.{◌≡◌, ℕ, ◌-◌, ◌*◌, false, cond, ◌&&◌, List, [], get_or, replicate, is_some, Some, None, Option, ap, ◌∙◌, inl, inr}
 use Rattle.std.proofs.lemmas.List.{get_or-replicate, get_or_past, length-replicate}
 use Rattle.std.proofs.Math.Bool.{and-false}
 use Rattle.std.proofs.lemmas.Bool.{cases_lt}
@@ -16,7 +16,6 @@ nothing_kept n k = elim (cases_lt k n) [
   | inl within ↦ get_or-replicate n k None None within
   | inr past ↦ get_or_past (replicate n None) k None (rw length-replicate past)
 ]
-
 
 -- with empty places and no visit the state is the opened one
 pub clear_state : {T X : Type 0} (m : Marks T) (memory : List X) → m.visit ≡ None → m.filled ≡ replicate 12 None → state_of m memory ≡ opened m.w m.h m.places

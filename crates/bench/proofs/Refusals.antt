@@ -1,11 +1,11 @@
 -- What a call leaves where it is refused and where it is not. Assumes nothing.
-use Rattle.std.proofs.Common.{◌≡◌, ℕ, ◌*◌, Bool, true, false, ◌&&◌, is_some, Some, None, Ok, Err, Option, sym, refl, ap, arith}
+use Rattle.std.proofs.Common.{◌≡◌, ℕ, ◌*◌, Bool, true, false, is_some, Some, None, Ok, Err, Option, sym, refl, ap, arith}
 use Rattle.std.proofs.lemmas.Bool.{not-false, eqb-true, and_parts}
 use Rattle.limits.specs.declared.fault.Fault.{Fault}
 use Rattle.limits.specs.Faults.{first}
 use Rattle.bench.specs.Model.{Outline, is_place}
-use Rattle.bench.specs.Calls.{load_refusal, make_refusal, sheet_refusal, source_refusal, transform_refusal}
-use Rattle.limits.specs.Faults.{tells, told, unless}
+use Rattle.bench.specs.Calls.{load_refusal, make_refusal, source_refusal}
+use Rattle.limits.specs.Faults.{told, unless}
 
 pub refused_leaves : {S : Type 0} (o : Option Fault) (e : Fault) (new old : S) → Err e ≡ told o → old ≡ unless o new old
 refused_leaves None e new old h = absurd (let z : ◌≡◌ {A = ℕ} 0 1 = cc in omega arith)

@@ -31,6 +31,7 @@ pub(crate) fn part<T>(memory: &[T], start: usize, cells: usize) -> &[T]
 }
 
 // Writes what a transformation makes of the sheets from two starts to the cells from a third, by way of a working plane.
+// It takes both parts of the memory and is no method, since a field of the rack can't be read while another is lent.
 pub(crate) fn make_place<T: Transform, L: Level>(
     transform: &T,
     sheets: &mut [L],
@@ -50,13 +51,15 @@ pub(crate) fn make_place<T: Transform, L: Level>(
     ensures length { length (T.makes transform.now w h (take (w * h) (drop one (map L.height sheets.old))) (take (w * h) (drop other (map L.height sheets.old)))) ≡ w * h }
 {
     let cells = w * h;
-    let plane = &mut planes[0..cells];
-    let _ = transform.transform(
-        part(sheets, one, cells),
-        part(sheets, other, cells),
-        plane,
-        w,
-        h,
-    );
+    let plane = &mut planes[..cells];
+    transform
+        .transform(
+            part(sheets, one, cells),
+            part(sheets, other, cells),
+            plane,
+            w,
+            h,
+        )
+        .unwrap();
     store(sheets, to, plane);
 }

@@ -19,8 +19,7 @@ impl<L: Level> Rack<'_, '_, L> {
         ensures value { result ≡ ((rack_outline self.now).w, (rack_outline self.now).h, (rack_outline self.now).places) }
         ensures bound { (result.0 ≤ 1024) × (result.1 ≤ 1024) }
     {
-        let marks = &self.marks;
-        (marks.w, marks.h, marks.places)
+        (self.marks.w, self.marks.h, self.marks.places)
     }
 
     /// Fills a place from a picture of w × h levels.
@@ -33,9 +32,9 @@ impl<L: Level> Rack<'_, '_, L> {
             (λ _. self.new.sheets.now ≡ self.old.sheets.now) }
         ensures planes { self.new.planes.now ≡ self.old.planes.now }
     {
-        let marks = &self.marks;
-        marks.refuse_load(place, picture.len())?;
-        store(self.sheets, (place - 1) * marks.cells(), picture);
+        self.marks.refuse_load(place, picture.len())?;
+        let start = (place - 1) * self.marks.cells();
+        store(self.sheets, start, picture);
         self.marks.fill(place, ());
         Ok(())
     }
@@ -103,9 +102,9 @@ impl<L: Level> Rack<'_, '_, L> {
             × (1 ≤ (rack_outline self.now).w) × (1 ≤ length sheet.now) × (length sheet.now ≤ 1048576))
             (λ _. Unit {0}) }
     {
-        let marks = &self.marks;
-        marks.source(place, Fault::SheetPlace, Fault::EmptySheet)?;
-        let cells = marks.cells();
+        self.marks
+            .source(place, Fault::SheetPlace, Fault::EmptySheet)?;
+        let cells = self.marks.cells();
         Ok(part(self.sheets, (place - 1) * cells, cells))
     }
 

@@ -13,8 +13,7 @@ impl Slate<'_> {
         ensures value { result ≡ ((slate_outline self.now).w, (slate_outline self.now).h, (slate_outline self.now).places) }
         ensures bound { (result.0 ≤ 1024) × (result.1 ≤ 1024) }
     {
-        let marks = &self.marks;
-        (marks.w, marks.h, marks.places)
+        (self.marks.w, self.marks.h, self.marks.places)
     }
 
     /// The numbers and the weight of the tally in a place.
@@ -29,9 +28,10 @@ impl Slate<'_> {
             (λ tally. length tally.0.now ≡ (slate_outline self.now).w * (slate_outline self.now).h)
             (λ _. Unit {0}) }
     {
-        let marks = &self.marks;
-        let weight = marks.source(place, Fault::TallyPlace, Fault::EmptyTally)?;
-        let cells = marks.cells();
+        let weight = self
+            .marks
+            .source(place, Fault::TallyPlace, Fault::EmptyTally)?;
+        let cells = self.marks.cells();
         Ok((part(self.tallies, (place - 1) * cells, cells), weight))
     }
 }

@@ -83,10 +83,10 @@ pub fn cut<L: Level>(
     if mask.len() != w * h {
         return Err(Fault::Length);
     }
-    if place < 1 || place > places {
+    if !(1..=places).contains(&place) {
         return Err(Fault::SheetPlace);
     }
-    if height < 1 || height > L::highest().height() {
+    if !(1..=L::highest().height()).contains(&height) {
         return Err(Fault::FactorOrHeight);
     }
     let sheet = rack.sheet(place)?;

@@ -64,6 +64,16 @@ operate_writes op m offsets from to heights =
     let cells = m.w * m.h in
     overwritten (place_start cells to) (operated op m.w m.h offsets (cells_of cells from heights)) heights
 
+-- A call fills a place with what an operation makes of the sheet in another so: it tells its refusal or nothing, leaves the state by
+-- its definition, and of the memory changes just the target's cells; the working planes are free, but a refusal leaves them too.
+pub record OperatesOnSheet {L : Type 0} (height : L → ℕ) (op : Operation) (offsets : List (ℤ × ℤ)) (was is : Rack L) (from to : ℕ) (answer : Result (Unit {0}) Fault) : Type 0 where
+  pub answers : answer ≡ told (transform_refusal (rack_outline was) from to)
+  pub steps : rack_state height is ≡ operate_leaves op (rack_state height was) offsets from to
+  pub memory : MatchResult answer
+      (λ _. map height is.sheets.now ≡ operate_writes op was.marks offsets from to (map height was.sheets.now))
+      (λ _. is.sheets.now ≡ was.sheets.now)
+  pub planes : OnErr answer (is.planes.now ≡ was.planes.now)
+
 -- area: the sum of the heights, refused as a call from that place to itself would be
 abbrev pub area_answer : State ℕ → ℕ → Result ℕ Fault
 area_answer s k = tells (transform_refusal s.outline k k) (area (s.content k))

@@ -1,6 +1,6 @@
 // The calls on the sheets of a rack.
-ghost use Rattle.std.specs.Prelude.{◌≡◌, ◌*◌, ◌≤◌, map, length, Some, None, MatchResult, OnErr};
-ghost use Rattle.bench.specs.Calls.{MakesSheet, area_answer, load_refusal, load_leaves, operate_leaves, operate_writes, sheet_refusal, transform_refusal};
+ghost use Rattle.std.specs.Prelude.{◌≡◌, ◌*◌, ◌≤◌, map, length, Some, None, MatchResult};
+ghost use Rattle.bench.specs.Calls.{MakesSheet, OperatesOnSheet, area_answer, load_refusal, load_leaves, sheet_refusal};
 ghost use Rattle.limits.specs.Faults.{told};
 ghost use Rattle.bench.specs.Model.{overwritten, place_start, rack_outline, rack_state};
 ghost use Rattle.elements.specs.Elements.{offsets};
@@ -47,12 +47,7 @@ impl<L: Level> Rack<'_, '_, L> {
         from: usize,
         to: usize,
     ) -> Result<(), Fault>
-        ensures answers { result ≡ told (transform_refusal (rack_outline self.old) from to) }
-        ensures steps { rack_state L.height self.new ≡ operate_leaves op (rack_state L.height self.old) (offsets element.now) from to }
-        ensures memory { MatchResult result
-            (λ _. map L.height self.new.sheets.now ≡ operate_writes op self.old.marks (offsets element.now) from to (map L.height self.old.sheets.now))
-            (λ _. self.new.sheets.now ≡ self.old.sheets.now) }
-        ensures planes { OnErr result (self.new.planes.now ≡ self.old.planes.now) }
+        ensures { OperatesOnSheet L.height op (offsets element.now) self.old self.new from to result }
     {
         self.make(&ByElement { op, element }, from, from, to)
     }
@@ -60,12 +55,7 @@ impl<L: Level> Rack<'_, '_, L> {
     /// Fills the place `to` with the erosion by an element of the sheet in the place `from`, which may be the same.
     /// Refuses a place that the rack has not (5), no visit open (31), and a source place that is empty (34).
     pub fn erode(&mut self, element: &Element, from: usize, to: usize) -> Result<(), Fault>
-        ensures answers { result ≡ told (transform_refusal (rack_outline self.old) from to) }
-        ensures steps { rack_state L.height self.new ≡ operate_leaves Erosion (rack_state L.height self.old) (offsets element.now) from to }
-        ensures memory { MatchResult result
-            (λ _. map L.height self.new.sheets.now ≡ operate_writes Erosion self.old.marks (offsets element.now) from to (map L.height self.old.sheets.now))
-            (λ _. self.new.sheets.now ≡ self.old.sheets.now) }
-        ensures planes { OnErr result (self.new.planes.now ≡ self.old.planes.now) }
+        ensures { OperatesOnSheet L.height Erosion (offsets element.now) self.old self.new from to result }
     {
         self.transform(Operation::Erosion, element, from, to)
     }
@@ -73,12 +63,7 @@ impl<L: Level> Rack<'_, '_, L> {
     /// Fills the place `to` with the dilation by an element of the sheet in the place `from`, which may be the same.
     /// Refuses a place that the rack has not (5), no visit open (31), and a source place that is empty (34).
     pub fn dilate(&mut self, element: &Element, from: usize, to: usize) -> Result<(), Fault>
-        ensures answers { result ≡ told (transform_refusal (rack_outline self.old) from to) }
-        ensures steps { rack_state L.height self.new ≡ operate_leaves Dilation (rack_state L.height self.old) (offsets element.now) from to }
-        ensures memory { MatchResult result
-            (λ _. map L.height self.new.sheets.now ≡ operate_writes Dilation self.old.marks (offsets element.now) from to (map L.height self.old.sheets.now))
-            (λ _. self.new.sheets.now ≡ self.old.sheets.now) }
-        ensures planes { OnErr result (self.new.planes.now ≡ self.old.planes.now) }
+        ensures { OperatesOnSheet L.height Dilation (offsets element.now) self.old self.new from to result }
     {
         self.transform(Operation::Dilation, element, from, to)
     }

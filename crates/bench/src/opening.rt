@@ -34,10 +34,10 @@ fn opened_marks<T: Copy>(working: u8, w: usize, h: usize, places: usize, len: us
     }
 }
 
-impl<'a, L: Level> Rack<'a, 'a, L> {
+impl<'a, L: Level> Rack<'a, L> {
     /// Opens a rack: every place is empty, no visit is open and the memory is as it was.
     /// Wrong sizes, which `check_rack` refuses, open it with sides 0 and no places.
-    pub fn open(memory: &'a mut [L], w: usize, h: usize, places: usize) -> Rack<'a, 'a, L>
+    pub fn open(memory: &'a mut [L], w: usize, h: usize, places: usize) -> Rack<'a, L>
         ensures state { rack_state L.height result ≡ as_opened 2 w h places (length memory.old) }
         ensures memory { result.sheets.now ++ result.planes.now ≡ memory.old }
     {

@@ -13,7 +13,7 @@ use levels::level::Level;
 use limits::Fault;
 use morphology::{ByElement, Operation, Transform};
 
-impl<L: Level> Rack<'_, '_, L> {
+impl<L: Level> Rack<'_, L> {
     /// The width and height of the rack's sheets and the number of its places; all 0 where it was opened with wrong sizes.
     pub fn sizes(&self) -> (usize, usize, usize)
         ensures value { result ≡ ((rack_outline self.now).w, (rack_outline self.now).h, (rack_outline self.now).places) }

@@ -15,7 +15,7 @@ use limits::Fault;
 /// differ (37).
 pub fn begin<L: Level>(
     flat: u16,
-    rack: &mut Rack<'_, '_, L>,
+    rack: &mut Rack<'_, L>,
     slate: &mut Slate<'_>,
 ) -> Result<Slip, Fault>
     ensures answers { MatchResult result
@@ -40,7 +40,7 @@ pub fn begin<L: Level>(
 /// differ (37); it then hands the slip back.
 pub fn end<L: Level>(
     mut slip: Slip,
-    rack: &mut Rack<'_, '_, L>,
+    rack: &mut Rack<'_, L>,
     slate: &mut Slate<'_>,
 ) -> Result<(), EndRefused>
     ensures answers { MatchResult result

@@ -2,13 +2,14 @@
 #![tactic(auto)]
 
 ghost use Rattle.std.specs.Prelude.{◌≡◌, ◌≤◌, [], ◌∷◌, length, IfOk, Ok, Err, MatchResult};
+ghost use Rattle.pictures.specs.declared.PictureFault.TheVariants.{Header};
 ghost use Rattle.pictures.specs.Headers.{height_at_lem, picture_fault_number, picture_fault_place, Fills};
 ghost use Rattle.pictures.specs.Reading.{read, sized, ScansAs, ReadsBackPictures, ReadsOnlyPictures, RefusesWhatIsWrong};
 
 use text::{Misfit, fixed, number};
 
 /// The sides of a picture, and the place of its first cell in the file.
-#[derive(Clone, Copy)]
+#[derive(Clone, Copy, Debug, PartialEq, Eq)]
 pub struct Picture {
     pub width: usize,
     pub height: usize,
@@ -16,7 +17,7 @@ pub struct Picture {
 }
 
 /// Why a file is refused, with the place of the byte in question, from 0.
-#[derive(Clone, Copy)]
+#[derive(Clone, Copy, Debug, PartialEq, Eq)]
 pub enum PictureFault {
     /// 19: the header is not of the form, at its first misfit, or at the file's end where it ends inside the header.
     Header(usize),
@@ -43,10 +44,17 @@ impl PictureFault {
         ensures { result ≡ picture_fault_place self }
     {
         match self {
-            PictureFault::Header(place) => place,
-            PictureFault::Side(place) => place,
-            PictureFault::Length(place) => place,
+            PictureFault::Header(place) | PictureFault::Side(place) | PictureFault::Length(place) =>
+                place,
         }
+    }
+}
+
+impl From<Misfit> for PictureFault {
+    ghost from_gives = { λ misfit fault. fault ≡ Header misfit.place };
+
+    fn from(misfit: Misfit) -> PictureFault {
+        PictureFault::Header(misfit.place)
     }
 }
 
@@ -77,10 +85,8 @@ pub fn read_picture(bytes: &[u8]) -> Result<Picture, PictureFault>
     ensures only { ReadsOnlyPictures }
     ensures wrong { RefusesWhatIsWrong }
 {
-    match read_header(bytes) {
-        Ok(sides) => check_size(sides, bytes.len()),
-        Err(misfit) => Err(PictureFault::Header(misfit.place)),
-    }
+    let sides = read_header(bytes)?;
+    check_size(sides, bytes.len())
 }
 
 // The sides in the header that the file starts with.

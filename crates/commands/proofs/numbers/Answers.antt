@@ -17,8 +17,8 @@ decided n i numbers line at r so_far more on =
     so_far
     ∙ ap (all_before (take i numbers)) (ap (λ (k : ℕ). scan (arguments k) line at) {y = suc (n - (i + 1))} (omega arith) ∙ on)
 
-pub loop-i-init : goal.loop-i-init
-loop-i-init g c =
+pub loop-number-init : goal.loop-number-init
+loop-number-init g c =
     (length-replicate g.row.N 0, c.requires, ap (λ (k : ℕ). scan (arguments k) c.args.line.now 1) (omega arith))
 
 pub returns-in_err-start : goal.returns-in_err-start
@@ -27,10 +27,10 @@ returns-in_err-start g c =
     rw (p.1, p.2)
     (record {
       answers =
-          decided g.row.N c.loop-i.i c.loop-i.numbers c.args.line.now c.loop-i.at _ c.loop-i.invariant.2 c.loop-i-test.true
-          (blank_refused _ c.args.line.now c.loop-i.at _ c.in_err-start.ensures.answers)
-          ∙ refused_after (take c.loop-i.i c.loop-i.numbers) _;
-      within = (c.in_err-start.ensures.tells c.loop-i.invariant.1).within;
+          decided g.row.N c.loop-number.number-index c.loop-number.number-items c.args.line.now c.loop-number.at _ c.loop-number.invariant.2 c.loop-number-test.true
+          (blank_refused _ c.args.line.now c.loop-number.at _ c.in_err-start.ensures.answers)
+          ∙ refused_after (take c.loop-number.number-index c.loop-number.number-items) _;
+      within = (c.in_err-start.ensures.tells c.loop-number.invariant.1).within;
     })
 
 pub returns-in_err-read : goal.returns-in_err-read
@@ -39,25 +39,25 @@ returns-in_err-read g c =
     rw (p.1, p.2)
     (record {
       answers =
-          decided g.row.N c.loop-i.i c.loop-i.numbers c.args.line.now c.loop-i.at _ c.loop-i.invariant.2 c.loop-i-test.true
-          (one_more_refused _ c.args.line.now c.loop-i.at _ _ c.in_ok-start.ensures.answers c.in_err-read.ensures.answers)
-          ∙ refused_after (take c.loop-i.i c.loop-i.numbers) _;
-      within = omega (arith, c.in_err-read.ensures.tells.0, (c.in_ok-start.ensures.tells c.loop-i.invariant.1).within);
+          decided g.row.N c.loop-number.number-index c.loop-number.number-items c.args.line.now c.loop-number.at _ c.loop-number.invariant.2 c.loop-number-test.true
+          (one_more_refused _ c.args.line.now c.loop-number.at _ _ c.in_ok-start.ensures.answers c.in_err-read.ensures.answers)
+          ∙ refused_after (take c.loop-number.number-index c.loop-number.number-items) _;
+      within = omega (arith, c.in_err-read.ensures.tells.0, (c.in_ok-start.ensures.tells c.loop-number.invariant.1).within);
     })
 
-pub loop-i-preserved : goal.loop-i-preserved
-loop-i-preserved g c =
-    let i : ℕ = c.loop-i.i in
+pub loop-number-preserved : goal.loop-number-preserved
+loop-number-preserved g c =
+    let i : ℕ = c.loop-number.number-index in
     let n : ℕ = c.in_ok-read.read.value in
-    let room : i < length c.loop-i.numbers = omega (arith, c.loop-i.invariant.0) in (
-      length-set c.loop-i.numbers i n ∙ c.loop-i.invariant.0,
+    let room : i < length c.loop-number.number-items = omega (arith, c.loop-number.invariant.0) in (
+      length-set c.loop-number.number-items i n ∙ c.loop-number.invariant.0,
       c.in_ok-read.ensures.tells.within,
-      decided g.row.N i c.loop-i.numbers c.args.line.now c.loop-i.at _ c.loop-i.invariant.2 c.loop-i-test.true
-          (one_more_read _ c.args.line.now c.loop-i.at _ c.in_ok-read.read
+      decided g.row.N i c.loop-number.number-items c.args.line.now c.loop-number.at _ c.loop-number.invariant.2 c.loop-number-test.true
+          (one_more_read _ c.args.line.now c.loop-number.at _ c.in_ok-read.read
           c.in_ok-start.ensures.answers c.in_ok-read.ensures.answers)
-          ∙ (sym (one_more_before (take i c.loop-i.numbers) n _)
+          ∙ (sym (one_more_before (take i c.loop-number.number-items) n _)
           ∙ ap (λ (ns : List ℕ). all_before ns (scan (arguments (g.row.N - (i + 1))) c.args.line.now c.in_ok-read.read.end))
-          (sym (take_more_set c.loop-i.numbers i n room))),
+          (sym (take_more_set c.loop-number.number-items i n room))),
     )
 
 all_read : (n i : ℕ) (numbers line : List ℕ) (at : ℕ) (r : Result Reading Misfit)
@@ -72,19 +72,19 @@ pub returns-then-at-line : goal.returns-then-at-line
 returns-then-at-line g c =
     record {
       answers =
-          all_read g.row.N c.loop-i.i c.loop-i.numbers c.args.line.now c.loop-i.at _ c.loop-i.invariant.2 c.loop-i.invariant.0 c.loop-i-test.false
-          (cond-false _ _ _ (lt-leb (length c.args.line.now) c.loop-i.at c.if-at-line.true))
-          ∙ refused_after c.loop-i.numbers _;
-      within = c.loop-i.invariant.1;
+          all_read g.row.N c.loop-number.number-index c.loop-number.number-items c.args.line.now c.loop-number.at _ c.loop-number.invariant.2 c.loop-number.invariant.0 c.loop-number-test.false
+          (cond-false _ _ _ (lt-leb (length c.args.line.now) c.loop-number.at c.if-at-line.true))
+          ∙ refused_after c.loop-number.number-items _;
+      within = c.loop-number.invariant.1;
     }
 
 pub returns : goal.returns
 returns g c =
-    let end : c.loop-i.at ≡ length c.args.line.now = omega (arith, c.loop-i.invariant.1) in
+    let end : c.loop-number.at ≡ length c.args.line.now = omega (arith, c.loop-number.invariant.1) in
     record {
       answers =
-          all_read g.row.N c.loop-i.i c.loop-i.numbers c.args.line.now c.loop-i.at _ c.loop-i.invariant.2 c.loop-i.invariant.0 c.loop-i-test.false
-          (cond-true _ _ _ (le-leb (length c.args.line.now) c.loop-i.at c.if-at-line.false))
-          ∙ (read_after c.loop-i.numbers c.loop-i.at ∙ ap (λ (e : ℕ). Ok (record { numbers = c.loop-i.numbers; end = e })) end);
-      within = c.loop-i.invariant.0;
+          all_read g.row.N c.loop-number.number-index c.loop-number.number-items c.args.line.now c.loop-number.at _ c.loop-number.invariant.2 c.loop-number.invariant.0 c.loop-number-test.false
+          (cond-true _ _ _ (le-leb (length c.args.line.now) c.loop-number.at c.if-at-line.false))
+          ∙ (read_after c.loop-number.number-items c.loop-number.at ∙ ap (λ (e : ℕ). Ok (record { numbers = c.loop-number.number-items; end = e })) end);
+      within = c.loop-number.invariant.0;
     }

@@ -6,7 +6,7 @@ use Rattle.commands.proofs.Arguments.{all_before}
 use Rattle.commands.proofs.numbers.Given as goal
 
 -- the numbers so far, and how the line reads on
-abbrev pub invariant-loop-i : goal.invariant-loop-i
-invariant-loop-i g l =
-    (length l.numbers ≡ g.row.N) × (l.at ≤ length l.line)
-    × (scan (arguments g.row.N) l.line 1 ≡ all_before (take l.i l.numbers) (scan (arguments (g.row.N - l.i)) l.line l.at))
+abbrev pub invariant-loop-number : goal.invariant-loop-number
+invariant-loop-number g l =
+    (length l.number-items ≡ g.row.N) × (l.at ≤ length l.line)
+    × (scan (arguments g.row.N) l.line 1 ≡ all_before (take l.number-index l.number-items) (scan (arguments (g.row.N - l.number-index)) l.line l.at))

@@ -4,7 +4,7 @@
 ghost use Rattle.std.specs.Prelude.{◌≡◌, ◌≤◌, length, IfErr, MatchResult};
 ghost use Rattle.commands.specs.Reading.{command_on_lem, read, TellsArguments, ReadsBackLines, ReadsOnlyLines, RefusesLinesAtMisfit};
 
-use text::{Misfit, fixed};
+use text::{Misfit, Scanner};
 
 /// A command of a job: what a line of it says.
 #[derive(Clone, Copy, Debug, PartialEq, Eq)]
@@ -94,16 +94,14 @@ fn numbers<const N: usize>(line: &[u8]) -> Result<[u16; N], Misfit>
     ensures answers { TellsArguments N line.now result }
     ensures within { MatchResult result (λ ns. length ns ≡ N) (λ misfit. misfit.place ≤ length line.now) }
 {
+    let mut scanner = Scanner { bytes: line, at: 1 };
     let mut numbers = [0; N];
-    let mut at = 1;
     for number in &mut numbers {
-        let start = fixed(line, at, b" ")?;
-        let read = text::number(line, start, 0)?;
-        *number = read.value;
-        at = read.end;
+        scanner.fixed(b" ")?;
+        *number = scanner.number(0)?;
     }
-    if at < line.len() {
-        return Err(Misfit { place: at });
+    if scanner.at < line.len() {
+        return Err(Misfit { place: scanner.at });
     }
     Ok(numbers)
 }

@@ -6,7 +6,7 @@ ghost use Rattle.pictures.specs.declared.PictureFault.TheVariants.{Header};
 ghost use Rattle.pictures.specs.Headers.{height_at_lem, picture_fault_number, picture_fault_place, Fills};
 ghost use Rattle.pictures.specs.Reading.{read, sized, ScansAs, ReadsBackPictures, ReadsOnlyPictures, RefusesWhatIsWrong};
 
-use text::{Misfit, fixed, number};
+use text::{Misfit, Scanner};
 
 /// The sides of a picture, and the place of its first cell in the file.
 #[derive(Clone, Copy, Debug, PartialEq, Eq)]
@@ -94,16 +94,18 @@ fn read_header(bytes: &[u8]) -> Result<Sides, Misfit>
     ensures answers { MatchResult result (λ s. ScansAs bytes.now (Ok (record { numbers = s.width ∷ s.height ∷ []; end = s.start }))) (λ misfit. ScansAs bytes.now (Err misfit)) }
     ensures within { IfOk result (λ s. (s.height_at ≡ height_at_lem s.width) × (s.start ≤ length bytes.now)) }
 {
-    let width_at = fixed(bytes, 0, b"P5\n")?;
-    let width = number(bytes, width_at, 1)?;
-    let height_at = fixed(bytes, width.end, b" ")?;
-    let height = number(bytes, height_at, 1)?;
-    let start = fixed(bytes, height.end, b"\n255\n")?;
+    let mut scanner = Scanner::new(bytes);
+    scanner.fixed(b"P5\n")?;
+    let width = scanner.number(1)?;
+    scanner.fixed(b" ")?;
+    let height_at = scanner.at;
+    let height = scanner.number(1)?;
+    scanner.fixed(b"\n255\n")?;
     Ok(Sides {
-        width: width.value,
-        height: height.value,
+        width,
+        height,
         height_at,
-        start,
+        start: scanner.at,
     })
 }
 

@@ -56,31 +56,28 @@ fn command_on(line: &[u8]) -> Result<Command, Misfit>
     ensures answers { result ≡ command_on_lem line.now }
     ensures within { IfErr result (λ misfit. misfit.place ≤ length line.now) }
 {
-    let Some(letter) = line.first() else {
-        return Err(Misfit { place: 0 });
-    };
-    match char::from(*letter) {
-        'V' => {
+    match line {
+        [b'V', ..] => {
             let [flat] = numbers::<1>(line)?;
             Ok(Command::Begin { flat })
         }
-        'L' => {
+        [b'L', ..] => {
             let [place] = numbers::<1>(line)?;
             Ok(Command::Load { place })
         }
-        'E' => {
+        [b'E', ..] => {
             let [from, to] = numbers::<2>(line)?;
             Ok(Command::Erode { from, to })
         }
-        'D' => {
+        [b'D', ..] => {
             let [from, to] = numbers::<2>(line)?;
             Ok(Command::Dilate { from, to })
         }
-        'A' => {
+        [b'A', ..] => {
             let [place] = numbers::<1>(line)?;
             Ok(Command::Area { place })
         }
-        'X' => {
+        [b'X', ..] => {
             let [] = numbers::<0>(line)?;
             Ok(Command::End)
         }

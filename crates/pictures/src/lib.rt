@@ -86,7 +86,7 @@ pub fn read_picture(bytes: &[u8]) -> Result<Picture, PictureFault>
     ensures wrong { RefusesWhatIsWrong }
 {
     let sides = read_header(bytes)?;
-    check_size(sides, bytes.len())
+    check_size(sides, bytes)
 }
 
 // The sides in the header that the file starts with.
@@ -109,10 +109,10 @@ fn read_header(bytes: &[u8]) -> Result<Sides, Misfit>
     })
 }
 
-// The picture of these sides, in a file of `len` bytes.
-fn check_size(sides: Sides, len: usize) -> Result<Picture, PictureFault>
-    requires { (sides.height_at ≡ height_at_lem sides.width) × (sides.start ≤ len) }
-    ensures { result ≡ sized sides.width sides.height sides.start len }
+// The picture of these sides, in this file.
+fn check_size(sides: Sides, bytes: &[u8]) -> Result<Picture, PictureFault>
+    requires { (sides.height_at ≡ height_at_lem sides.width) × (sides.start ≤ length bytes.now) }
+    ensures { result ≡ sized sides.width sides.height sides.start (length bytes.now) }
 {
     if sides.width > LARGEST_SIDE {
         return Err(PictureFault::Side(WIDTH_AT));
@@ -122,12 +122,9 @@ fn check_size(sides: Sides, len: usize) -> Result<Picture, PictureFault>
     }
     let width = usize::from(sides.width);
     let height = usize::from(sides.height);
-    let cells = width * height;
-    if len - sides.start < cells {
-        return Err(PictureFault::Length(len));
-    }
-    if len - sides.start > cells {
-        return Err(PictureFault::Length(sides.start + cells));
+    let end = sides.start + width * height;
+    if bytes.len() != end {
+        return Err(PictureFault::Length(bytes.len().min(end)));
     }
     Ok(Picture {
         width,

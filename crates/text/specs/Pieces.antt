@@ -14,9 +14,9 @@ abbrev pub reached : {X : Type 0} → ℕ → Result X Misfit → Result ℕ Mis
 reached end (Ok _) = Ok end
 reached end (Err misfit) = Err misfit
 
-abbrev pub counted : ℕ → Result ℕ Misfit → Result Numeral Misfit
-counted end (Ok value) = Ok (record { value = value; end = end })
-counted end (Err misfit) = Err misfit
+abbrev pub with_end : ℕ → Result ℕ Misfit → Result Numeral Misfit
+with_end end (Ok value) = Ok (record { value = value; end = end })
+with_end end (Err misfit) = Err misfit
 
 -- refused at a place
 abbrev pub refused_at : {X : Type 0} → ℕ → Result X Misfit

@@ -5,7 +5,7 @@ ghost use Rattle.std.specs.Prelude.{◌≡◌, ◌<◌, ◌≤◌, ◌==◌, len
 ghost use Rattle.std.specs.List.{common_prefix_len};
 ghost use Rattle.std.specs.Str.Parse.{AllDigits, digits_value};
 ghost use Rattle.text.specs.Forms.{TellsFixed};
-ghost use Rattle.text.specs.Pieces.{figures, fixed_at, number_at, reached, counted, TellsNumber};
+ghost use Rattle.text.specs.Pieces.{figures, fixed_at, number_at, reached, with_end, TellsNumber};
 
 /// The place of the first byte that does not fit, or the text's length where it ends too early.
 #[derive(Clone, Copy)]
@@ -50,8 +50,8 @@ impl<'t> Scanner<'t> {
     /// Reads a number: as many digits as stand next, at most four, or a 0 alone, so that it has no leading zero.
     /// Refuses a text with no digit next, or with a number below `least`, at that place.
     pub fn number(&mut self, least: u16) -> Result<u16, Misfit>
-        ensures answers { counted self.new.at result ≡ number_at least self.old.bytes.now self.old.at }
-        ensures tells { TellsNumber least self.old.bytes.now self.old.at (counted self.new.at result) }
+        ensures answers { with_end self.new.at result ≡ number_at least self.old.bytes.now self.old.at }
+        ensures tells { TellsNumber least self.old.bytes.now self.old.at (with_end self.new.at result) }
         ensures same_text { self.new.bytes.now ≡ self.old.bytes.now }
         ensures err { OnErr result (self.new.at ≡ self.old.at) }
     {

@@ -75,11 +75,10 @@ fn read_offset(column: u8, row: u8, place: usize) -> Result<Offset, CardFault>
         (λ fault. far_fault place (to_z w8 column) (to_z w8 row) None ≡ Some fault) }
 {
     let column = column.cast_signed();
-    let Some(offset) = Offset::new(column, row.cast_signed()) else {
-        let near = -3 <= column && column <= 3;
-        return Err(CardFault::Offset(if near { place + 1 } else { place }));
-    };
-    Ok(offset)
+    if column < -3 || column > 3 {
+        return Err(CardFault::Offset(place));
+    }
+    Offset::new(column, row.cast_signed()).ok_or(CardFault::Offset(place + 1))
 }
 
 // Visits a record of the chain: sets the flag of its offset, and tells the record to go on with.

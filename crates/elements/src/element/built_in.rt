@@ -47,10 +47,18 @@ fn pictured(rows: [[bool; 3]; 3]) -> Element
     requires { (slice_index_or (pictured_flags rows) 24 false ≡ true) × (2 ≤ count (pictured_flags rows)) }
     ensures { result.flags ≡ pictured_flags rows }
 {
+    let [[a, b, c], [d, e, f], [g, h, i]] = rows;
+    let square = [
+        [O, O, O, O, O, O, O],
+        [O, O, O, O, O, O, O],
+        [O, O, a, b, c, O, O],
+        [O, O, d, e, f, O, O],
+        [O, O, g, h, i, O, O],
+        [O, O, O, O, O, O, O],
+        [O, O, O, O, O, O, O],
+    ];
     let mut flags = [false; 49];
-    flags[16..19].copy_from_slice(&rows[0]);
-    flags[23..26].copy_from_slice(&rows[1]);
-    flags[30..33].copy_from_slice(&rows[2]);
+    flags.copy_from_slice(square.as_flattened());
     Element::from_flags(flags)
 }
 

@@ -1,7 +1,7 @@
 -- The writing of a card from its last record to its first: the records that stand already make the end of its chain.
 use Rattle.std.proofs.Common.{◌≡◌, ℕ, ◌+◌, ◌-◌, ◌*◌, ◌<◌, ◌≤◌, true, false, cond, ◌⊎◌, List, [], ◌∷◌, length, get_or, drop, ℤ, pos, sym, refl, ap, ◌∙◌, subst, inl, inr, arith, w8, to_z}
 use Rattle.std.proofs.lemmas.List.{at_drop_all, length-map}
-use Rattle.std.proofs.lemmas.Bool.{cond-true, cond-false}
+use Rattle.std.proofs.lemmas.Bool.{cond-true}
 use Rattle.std.proofs.lemmas.Bool.Decides.{nat_tests}
 use Rattle.elements.specs.declared.element.Element.{Element}
 use Rattle.elements.specs.Offsets.{◌∈◌, Different, Near, flagged, offset_at}

@@ -28,9 +28,8 @@ fn write_record(card: &mut [u8], number: u8, index: usize, next: u8)
         → slice_index card.new k ≡ slice_index card.old k }
 {
     let from = 3 * usize::from(number) - 2;
-    card[from] = side_byte(index % 7);
-    card[from + 1] = side_byte(index / 7);
-    card[from + 2] = next;
+    let record = [side_byte(index % 7), side_byte(index / 7), next];
+    card[from..from + 3].copy_from_slice(&record);
 }
 
 /// Writes a card of the element into a list of exactly 1 + 3r bytes, r the number of its offsets: a record for each offset,

@@ -1,5 +1,5 @@
 // The built-in elements.
-ghost use Rattle.std.specs.Prelude.{◌≡◌, ◌≤◌, true, false, [], Some, None, MatchResult, slice_index_or};
+ghost use Rattle.std.specs.Prelude.{◌≡◌, ◌≤◌, true, false, Some, None, MatchResult, slice_index_or};
 ghost use Rattle.limits.specs.declared.fault.Fault.TheVariants as Refusal;
 ghost use Rattle.elements.specs.BuiltIns.{built_in, built_in_offsets, pictured_flags};
 ghost use Rattle.elements.specs.Elements.{offsets};

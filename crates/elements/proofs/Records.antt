@@ -1,15 +1,10 @@
 -- What the first fault of a record is, by the tests that it passed.
-use Rattle.std.proofs.Common.{◌≡◌, ℕ, ◌≤◌, Bool, true, false, ltb, ◌⊎◌, List, get_or, Some, None, Option, refl, inl, inr, arith}
-use Rattle.std.proofs.lemmas.Bool.{ltb-false}
+use Rattle.std.proofs.Common.{◌≡◌, ℕ, ◌≤◌, Bool, true, false, ◌⊎◌, List, get_or, Some, None, Option, refl, inl, inr, arith}
+use Rattle.std.proofs.lemmas.Bool.Decides.{nat_tests}
 use Rattle.elements.specs.declared.cards.CardFault.{CardFault}
 use Rattle.elements.specs.Cards.{column_of, far, first, next_of, record_fault, record_place, records, row_of}
 
--- A test that finds nothing leaves it to the rest; one that finds a fault tells that one.
-pub none_found : (test : Bool) (fault : CardFault) (rest : Option CardFault) → first test fault rest ≡ None
-    → (test ≡ false) × (rest ≡ None)
-none_found true fault rest e = absurd (grind arith)
-none_found false fault rest e = (refl, e)
-
+-- A test that finds a fault tells that one, and else what the rest finds.
 pub found_by : (test : Bool) (fault f : CardFault) (rest : Option CardFault) → first test fault rest ≡ Some f
     → ((test ≡ true) × (fault ≡ f)) ⊎ ((test ≡ false) × (rest ≡ Some f))
 found_by true fault f rest e = inl (refl, cc)
@@ -23,9 +18,4 @@ module _ (card : List ℕ) (n : ℕ) (met : List Bool) where
       × (get_or met (record_place card n) false ≡ false)
 
   pub tests_passed : record_fault card n met ≡ None → Passed
-  tests_passed e =
-      let p = none_found (far (column_of card n)) _ _ e in
-      let q = none_found (far (row_of card n)) _ _ p.1 in
-      let r = none_found (ltb (records card) (next_of card n)) _ _ q.1 in
-      let s = none_found (get_or met (record_place card n) false) _ _ r.1 in
-      (p.0, q.0, ltb-false _ _ r.0, s.0)
+  tests_passed e = (grind (arith, nat_tests), grind (arith, nat_tests), grind (arith, nat_tests), grind (arith, nat_tests))

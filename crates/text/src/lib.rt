@@ -24,7 +24,8 @@ pub struct Scanner<'t> {
 impl<'t> Scanner<'t> {
     /// A text of which nothing has been read.
     pub fn new(bytes: &'t [u8]) -> Self
-        ensures { (result.bytes.now ≡ bytes.now) × (result.at ≡ 0) }
+        ensures text { result.bytes.now ≡ bytes.now }
+        ensures start { result.at ≡ 0 }
     {
         Scanner { bytes, at: 0 }
     }

@@ -1,7 +1,7 @@
 //! What the readers of job lines and of picture headers share: fixed bytes and numbers in text.
 #![tactic(auto)]
 
-ghost use Rattle.std.specs.Prelude.{◌≡◌, ◌<◌, ◌≤◌, ◌==◌, length, take, drop, OnErr};
+ghost use Rattle.std.specs.Prelude.{◌≡◌, ◌<◌, ◌≤◌, ◌==◌, length, take, drop, IfErr, OnErr};
 ghost use Rattle.std.specs.List.{common_prefix_len};
 ghost use Rattle.std.specs.Str.Parse.{AllDigits, digits_value};
 ghost use Rattle.text.specs.Forms.{TellsFixed};
@@ -18,7 +18,6 @@ pub struct Misfit {
 pub struct Scanner<'t> {
     pub bytes: &'t [u8],
     pub at: usize,
-    ghost within: { at ≤ length bytes.now },
 }
 
 impl<'t> Scanner<'t> {
@@ -34,7 +33,8 @@ impl<'t> Scanner<'t> {
     /// Refuses a text in which they do not stand next, at the first byte that is another, or at its end.
     pub fn fixed(&mut self, wanted: &[u8]) -> Result<(), Misfit>
         ensures answers { reached self.new.at result ≡ fixed_at wanted.now self.old.bytes.now self.old.at }
-        ensures tells { TellsFixed wanted.now self.old.bytes.now self.old.at (reached self.new.at result) }
+        ensures tells { self.old.at ≤ length self.old.bytes.now → TellsFixed wanted.now self.old.bytes.now self.old.at (reached self.new.at result) }
+        ensures within { self.old.at ≤ length self.old.bytes.now → (self.new.at ≤ length self.old.bytes.now) × IfErr result (λ misfit. misfit.place ≤ length self.old.bytes.now) }
         ensures same_text { self.new.bytes.now ≡ self.old.bytes.now }
         ensures err { OnErr result (self.new.at ≡ self.old.at) }
     {
@@ -53,6 +53,7 @@ impl<'t> Scanner<'t> {
     pub fn number(&mut self, least: u16) -> Result<u16, Misfit>
         ensures answers { with_end self.new.at result ≡ number_at least self.old.bytes.now self.old.at }
         ensures tells { TellsNumber least self.old.bytes.now self.old.at (with_end self.new.at result) }
+        ensures within { self.old.at ≤ length self.old.bytes.now → (self.new.at ≤ length self.old.bytes.now) × IfErr result (λ misfit. misfit.place ≤ length self.old.bytes.now) }
         ensures same_text { self.new.bytes.now ≡ self.old.bytes.now }
         ensures err { OnErr result (self.new.at ≡ self.old.at) }
     {
@@ -66,11 +67,11 @@ impl<'t> Scanner<'t> {
         Ok(value)
     }
 
-    // What has not been read yet.
+    // What has not been read yet; nothing where the place lies past the end.
     fn rest(&self) -> &'t [u8]
         ensures { result.now ≡ drop self.now.at self.now.bytes.now }
     {
-        &self.bytes[self.at..]
+        self.bytes.get(self.at..).unwrap_or(&[])
     }
 }
 

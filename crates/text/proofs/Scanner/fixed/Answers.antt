@@ -1,5 +1,5 @@
 -- The wanted bytes that stand next decide.
-use Rattle.std.proofs.Common.{◌≡◌, ℕ, ◌+◌, ◌<◌, ◌≤◌, List, length, Ok, Result, sym, refl, ◌∙◌, subst}
+use Rattle.std.proofs.Common.{◌≡◌, ℕ, ◌+◌, ◌<◌, ◌≤◌, List, length, Ok, Result, sym, ◌∙◌, subst}
 use Rattle.std.proofs.lemmas.Bool.{cond-true, cond-false, lt-ltb, le-ltb}
 use Rattle.text.specs.declared.Misfit.{Misfit}
 use Rattle.text.specs.Forms.{TellsFixed}
@@ -20,14 +20,16 @@ read : (wanted bytes : List ℕ) (at count : ℕ) → count ≡ matching wanted 
     → ◌≡◌ {A = Result ℕ Misfit} (Ok (at + count)) (fixed_at wanted bytes at)
 read wanted bytes at count all long = sym (fixed_at-matching wanted bytes at ∙ rw (← all) (cond-false _ _ _ (le-ltb _ _ long)))
 
-pub returns-then-matching-wanted : goal.returns-then-matching-wanted
-returns-then-matching-wanted c =
-    let answer = refused c.args.wanted.now c.args.self.now.bytes.now c.args.self.now.at _
-    (rw (← c.rest.ensures) c.count_matching-matching.ensures.value) c.if-matching-wanted.true in
-    record { answers = answer; tells = told _ _ _ _ answer c.args.self.now.within; same_text = refl; err = refl }
+pub returns-then-matching-wanted-clause-answers : goal.returns-then-matching-wanted-clause-answers
+returns-then-matching-wanted-clause-answers c =
+    refused c.args.wanted.now c.args.self.now.bytes.now c.args.self.now.at _ (rw (← c.rest.ensures) c.count_matching-matching.ensures.value) c.if-matching-wanted.true
 
-pub returns : goal.returns
-returns c =
-    let answer = read c.args.wanted.now c.args.self.now.bytes.now c.args.self.now.at _
-    (rw (← c.rest.ensures) c.count_matching-matching.ensures.value) c.if-matching-wanted.false in
-    record { answers = answer; tells = told _ _ _ _ answer c.args.self.now.within; same_text = refl; err = tt }
+pub returns-then-matching-wanted-clause-tells : goal.returns-then-matching-wanted-clause-tells
+returns-then-matching-wanted-clause-tells c = told _ _ _ _ (returns-then-matching-wanted-clause-answers c)
+
+pub returns-clause-answers : goal.returns-clause-answers
+returns-clause-answers c =
+    read c.args.wanted.now c.args.self.now.bytes.now c.args.self.now.at _ (rw (← c.rest.ensures) c.count_matching-matching.ensures.value) c.if-matching-wanted.false
+
+pub returns-clause-tells : goal.returns-clause-tells
+returns-clause-tells c = told _ _ _ _ (returns-clause-answers c)

@@ -1,5 +1,5 @@
 -- The number is that of the digits counted, or is refused where it would begin.
-use Rattle.std.proofs.Common.{◌≡◌, ℕ, ◌+◌, ◌<◌, ◌≤◌, ◌⊎◌, List, take, drop, Ok, Result, sym, refl, subst, arith}
+use Rattle.std.proofs.Common.{◌≡◌, ℕ, ◌+◌, ◌<◌, ◌≤◌, ◌⊎◌, List, take, drop, Ok, Result, sym, subst, arith}
 use Rattle.std.proofs.lemmas.Bool.Decides.{nat_tests}
 use Rattle.std.specs.Str.Parse.{digits_value}
 use Rattle.text.specs.declared.Misfit.{Misfit}
@@ -20,15 +20,19 @@ read : (least : ℕ) (bytes : List ℕ) (at count value : ℕ) → count ≡ fig
 unfolding number_at
 read least bytes at count value digits number some enough = let front : value ≡ front_value (drop at bytes) = cc in grind (arith, nat_tests)
 
-pub returns-then-count-eq0 : goal.returns-then-count-eq0
-returns-then-count-eq0 c =
-    let answer = refused c.args.least c.args.self.now.bytes.now c.args.self.now.at _ _
-    (rw (← c.rest-text.ensures) c.count_figures-count.ensures.value) (rw (← c.rest-text.ensures) c.read_digits-value.ensures) c.then-count-eq0.either in
-    record { answers = answer; tells = told c.args.least c.args.self.now.bytes.now c.args.self.now.at _ answer; same_text = refl; err = refl }
+pub returns-then-count-eq0-clause-answers : goal.returns-then-count-eq0-clause-answers
+returns-then-count-eq0-clause-answers c =
+    refused c.args.least c.args.self.now.bytes.now c.args.self.now.at _ _
+    (rw (← c.rest-text.ensures) c.count_figures-count.ensures.value) (rw (← c.rest-text.ensures) c.read_digits-value.ensures) c.then-count-eq0.either
 
-pub returns : goal.returns
-returns c =
-    let answer = read c.args.least c.args.self.now.bytes.now c.args.self.now.at _ _
+pub returns-then-count-eq0-clause-tells : goal.returns-then-count-eq0-clause-tells
+returns-then-count-eq0-clause-tells c = told c.args.least _ _ _ (returns-then-count-eq0-clause-answers c)
+
+pub returns-clause-answers : goal.returns-clause-answers
+returns-clause-answers c =
+    read c.args.least c.args.self.now.bytes.now c.args.self.now.at _ _
     (rw (← c.rest-text.ensures) c.count_figures-count.ensures.value) (rw (← c.rest-text.ensures) c.read_digits-value.ensures)
-    c.if-count-eq0.false c.if-value-least.false in
-    record { answers = answer; tells = told c.args.least c.args.self.now.bytes.now c.args.self.now.at _ answer; same_text = refl; err = tt }
+    c.if-count-eq0.false c.if-value-least.false
+
+pub returns-clause-tells : goal.returns-clause-tells
+returns-clause-tells c = told c.args.least _ _ _ (returns-clause-answers c)

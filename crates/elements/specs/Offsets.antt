@@ -1,5 +1,5 @@
 -- Offsets of the 7 × 7 square about (0, 0), as flags in reading order.
-use Rattle.std.specs.Prelude.{◌≡◌, count_by, ℕ, ◌+◌, ◌*◌, ◌/◌, ◌%◌, Bool, cond, ◌⊎◌, List, [], ◌∷◌, ℤ, pos, negsuc, ◌+ℤ◌, ◌-ℤ◌, ◌≤ℤ◌, unsigned_abs}
+use Rattle.std.specs.Prelude.{◌≡◌, ℕ, ◌+◌, ◌*◌, ◌/◌, ◌%◌, Bool, cond, ◌⊎◌, List, [], ◌∷◌, ℤ, pos, negsuc, ◌+ℤ◌, ◌-ℤ◌, ◌≤ℤ◌, unsigned_abs, count_by}
 
 -- A column or a row is −3 to 3.
 abbrev pub Near : ℤ → Type 0

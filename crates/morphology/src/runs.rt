@@ -10,6 +10,7 @@ pub(crate) fn combine<L: Level>(op: Operation, others: &[L], cells: &mut [L])
     requires { length others.now ≡ length cells.old }
     ensures { map L.height cells.new ≡ combined op (map L.height cells.old) (map L.height others.now) }
 {
+    // By number, since a proof knows nothing of the cells that a loop over `cells.iter_mut().zip(others)` wrote.
     for (k, cell) in cells.iter_mut().enumerate() {
         *cell = op.kept(*cell, others[k]);
     }

@@ -1,6 +1,6 @@
 -- Meet and join of two lists of heights, one height more at a time and at each place. Assumes nothing.
-use Rattle.std.proofs.Common.{◌≡◌, ℕ, zero, suc, min, max, ◌<◌, ◌≤◌, List, [], ◌∷◌, ◌++◌, ◌+◌, length, map, get_or, set, take, drop, replicate, sym, refl, ap, ◌∙◌, add-one, arith}
-use Rattle.std.proofs.lemmas.List.{append-nil, take_all, drop_all, get_or-map, length-map, length-replicate, map-append, map-set}
+use Rattle.std.proofs.Common.{◌≡◌, ℕ, zero, suc, ◌<◌, ◌≤◌, List, [], ◌∷◌, ◌++◌, ◌+◌, length, map, get_or, set, take, drop, sym, refl, ap, ◌∙◌, add-one, arith}
+use Rattle.std.proofs.lemmas.List.{append-nil, take_all, drop_all, get_or-map, map-set}
 use Rattle.morphology.specs.declared.operation.Operation.{Operation}
 use Rattle.morphology.specs.declared.operation.Operation.TheVariants.{Erosion, Dilation}
 use Rattle.morphology.specs.Cells.{cell_by_cell, combined}
@@ -50,21 +50,3 @@ get_or-cell_by_cell op (x ∷ f) (y ∷ g) (suc k) a b = get_or-cell_by_cell op 
 
 pub get_or-combined : (op : Operation) (f g : List ℕ) (k : ℕ) → k < length f → k < length g → get_or (combined op f g) k 0 ≡ extreme op (get_or f k 0) (get_or g k 0)
 get_or-combined op f g k a b = ap (λ xs. get_or xs k 0) (sym (combined_by_extreme op f g)) ∙ get_or-cell_by_cell (extreme op) f g k a b
-
-cell_by_cell-append : (op : ℕ → ℕ → ℕ) (f g : List ℕ) (f' g' : List ℕ) → length f ≡ length g → cell_by_cell op (f ++ f') (g ++ g') ≡ cell_by_cell op f g ++ cell_by_cell op f' g'
-cell_by_cell-append op [] [] f' g' same = refl
-cell_by_cell-append op [] (y ∷ g) f' g' same = absurd (omega arith)
-cell_by_cell-append op (x ∷ f) [] f' g' same = absurd (omega arith)
-cell_by_cell-append op (x ∷ f) (y ∷ g) f' g' same = ap (λ rest. op x y ∷ rest) (cell_by_cell-append op f g f' g' (omega arith))
-
--- what was combined part by part
-pub combined-append : (op : Operation) (f g f' g' : List ℕ) → length f ≡ length g → combined op (f ++ f') (g ++ g') ≡ combined op f g ++ combined op f' g'
-combined-append Erosion f g f' g' same = cell_by_cell-append min f g f' g' same
-combined-append Dilation f g f' g' same = cell_by_cell-append max f g f' g' same
-
--- a list in three parts, the outer two combined with what lies outside
-pub combined_parts : {X : Type 0} (height : X → ℕ) (op : Operation) (xs left rest inside right : List X) (g : List ℕ) (ls is rs : List X) → xs ≡ left ++ rest → rest ≡ inside ++ right → length inside ≡ length g → map height ls ≡ combined op (map height left) (replicate (length left) 0) → map height is ≡ combined op (map height inside) g → map height rs ≡ combined op (map height right) (replicate (length right) 0) → map height (ls ++ (is ++ rs)) ≡ combined op (map height xs) (replicate (length left) 0 ++ (g ++ replicate (length right) 0))
-combined_parts height op xs left rest inside right g ls is rs first second same l i r =
-    let lengths : length (map height left) ≡ length (replicate {A = ℕ} (length left) 0) = length-map left height ∙ sym (length-replicate (length left) 0) in
-    let middle : length (map height inside) ≡ length g = length-map inside height ∙ same in
-    rw (map-append, map-append, l, i, r, first, map-append, second, map-append, combined-append op (map height left) _ _ _ lengths, combined-append op (map height inside) _ _ _ middle) refl

@@ -1,6 +1,6 @@
 -- Heights that were read, and passes over the first cells of a list, part by part. Assumes nothing.
 use Rattle.std.proofs.Common.{rules, refl, ◌≡◌, ℕ, ◌+◌, ◌-◌, ◌<◌, ◌≤◌, List, ◌++◌, map, length, get_or, take, drop, replicate, sym, ap, ◌∙◌, inl, inr, arith}
-use Rattle.std.proofs.lemmas.List.{places, get_or-drop, get_or-map, get_or-replicate, get_or-take, length-drop, length-map, length-replicate, length-take-le, map-append, take-map, drop-map}
+use Rattle.std.proofs.lemmas.List.{places, get_or-drop, get_or-map, get_or-replicate, get_or-take, length-append, length-drop, length-map, length-replicate, length-take, length-take-le, map-append, take-map, drop-map}
 use Rattle.std.proofs.lemmas.Bool.{cases_lt}
 use Rattle.morphology.specs.declared.operation.Operation.{Operation}
 use Rattle.morphology.specs.Cells.{combined}
@@ -26,6 +26,9 @@ passed_none op v was = record { before = λ p h. absurd (omega arith); after = �
 -- the n cells of a list from b on, written as ys
 abbrev pub rewritten : {X : Type 0} → ℕ → ℕ → List X → List X → List X
 rewritten b n xs ys = take b xs ++ (ys ++ drop n (drop b xs))
+
+pub length-rewritten : {X : Type 0} (b n : ℕ) (xs ys : List X) → b + n ≤ length xs → length ys ≡ n → length (rewritten b n xs ys) ≡ length xs
+length-rewritten b n xs ys within long = simp (length-append, length-take, length-drop, long) (omega (arith, within))
 
 rewritten_before : (b n : ℕ) (f z : List ℕ) (p : ℕ) → b ≤ length f → p < b → get_or (rewritten b n f z) p 0 ≡ get_or f p 0
 rewritten_before b n f z p within h = search (rules, places)
@@ -56,10 +59,15 @@ module _ {X : Type 0} (height : X → ℕ) (op : Operation) (v : ℕ → ℕ) (w
     after = λ p h. rewritten_after b n (map height xs) (map height ys) p (rw length-map (omega arith)) (rw length-map long) (omega arith) ∙ passed.after p (omega arith);
   }
 
+  -- the next n cells combined with the heights os
+  pub passed_combined : (os : List ℕ) → length os ≡ n → ((m : ℕ) → m < n → get_or os m 0 ≡ v (b + m)) → map height ys ≡ combined op (map height (take n (drop b xs))) os → Passed op v was (map height (rewritten b n xs ys)) e
+  passed_combined os same reads combined_with = passed_more (λ m h.
+      let count : length (take n (drop b xs)) ≡ n = length-take-le n (drop b xs) (rw length-drop (omega arith)) in
+      ap (λ zs. get_or zs m 0) combined_with ∙ get_or-combined op _ os m (rw (length-map, count) h) (rw same h) ∙ ap (extreme op _) (reads m h))
+
   -- the next n cells combined with what lies outside
   pub passed_outside : ((p : ℕ) → b ≤ p → p < e → v p ≡ 0) → map height ys ≡ combined op (map height (take n (drop b xs))) (replicate (length (take n (drop b xs))) 0) → Passed op v was (map height (rewritten b n xs ys)) e
-  passed_outside lowest combined_with = passed_more (λ m h.
+  passed_outside lowest combined_with =
       let count : length (take n (drop b xs)) ≡ n = length-take-le n (drop b xs) (rw length-drop (omega arith)) in
-      ap (λ zs. get_or zs m 0) combined_with
-      ∙ get_or-combined op _ _ m (rw (length-map, count) h) (rw (length-replicate, count) h)
-      ∙ ap (extreme op _) (get_or-replicate _ m 0 0 (rw count h) ∙ sym (lowest (b + m) (omega arith) (omega arith))))
+      passed_combined (replicate n 0) (length-replicate n 0) (λ m h. get_or-replicate n m 0 0 h ∙ sym (lowest (b + m) (omega arith) (omega arith)))
+      (combined_with ∙ ap (λ k. combined op (map height (take n (drop b xs))) (replicate k 0)) count)

@@ -1,8 +1,7 @@
 -- What the cells of a row and the rows of a sheet read. Assumes nothing.
-use Rattle.std.proofs.Common.{◌≡◌, ℕ, ◌+◌, ◌-◌, ◌*◌, ◌/◌, ◌%◌, ◌<◌, ◌≤◌, min, Bool, ◌&&◌, true, false, cond, List, ◌++◌, length, get_or, take, drop, replicate, sym, refl, ap, ◌∙◌, mul_comm, add-mul, one-mul, inl, inr, arith}
-use Rattle.std.proofs.lemmas.List.{get_or_append_left, get_or-append_right, get_or-replicate, get_or-take, get_or-drop, length-replicate, length-take, length-drop}
+use Rattle.std.proofs.Common.{◌≡◌, ℕ, ◌+◌, ◌-◌, ◌*◌, ◌/◌, ◌%◌, ◌<◌, ◌≤◌, min, Bool, ◌&&◌, true, false, cond, List, get_or, take, drop, sym, refl, ap, ◌∙◌, mul_comm, add-mul, one-mul, arith}
+use Rattle.std.proofs.lemmas.List.{get_or-take, get_or-drop}
 use Rattle.std.proofs.lemmas.Nat.{div_below, div-mul-add, le-div, mod-mul-add, mul-le}
-use Rattle.std.proofs.lemmas.Bool.{cases_lt}
 use Rattle.std.proofs.lemmas.Bool.Decides.{nat_tests}
 use Rattle.morphology.specs.Sheets.{at_place}
 use Rattle.morphology.specs.Passes.{on_side, in_row, neighbour}
@@ -17,33 +16,21 @@ off_start side x c on low = grind (arith, nat_tests)
 pub off_end : (side x c : ℕ) → x < side → side - min (c - 3) side ≤ x → on_side side x c ≡ false
 off_end side x c on high = grind (arith, nat_tests)
 
--- the heights that the cells of a row read from the row f: those of n cells after the first `left`, and no row's before and after
-pub row_read : (w c : ℕ) (f : List ℕ) (left right n m : ℕ) → length f ≡ w → left ≡ min (3 - c) w → right ≡ min (c - 3) w → left + n + right ≡ w → m < w → get_or (replicate left 0 ++ (take n (drop right f) ++ replicate right 0)) m 0 ≡ in_row w f c m
-row_read w c f left right n m long start end whole on = elim (cases_lt m left) [
-  | inl low ↦
-      get_or_append_left (replicate left 0) _ 0 m (rw length-replicate low)
-      ∙ get_or-replicate left m 0 0 low
-      ∙ sym (ap (λ b. cond b (get_or f (m + c - 3) 0) 0) (off_start w m c (omega arith) (omega arith)))
-  | inr past ↦
-      get_or-append_right (replicate left 0) _ left m 0 (length-replicate left 0) past
-      ∙ elim (cases_lt (m - left) n) [
-        | inl low ↦
-            let place : right + (m - left) ≡ m + c - 3 = omega arith in
-            get_or_append_left (take n (drop right f)) _ 0 (m - left) (simp (length-take, length-drop) (omega arith))
-            ∙ get_or-take n (drop right f) (m - left) 0 low
-            ∙ get_or-drop right f (m - left) 0
-            ∙ ap (λ p. get_or f p 0) place
-            ∙ sym (ap (λ b. cond b (get_or f (m + c - 3) 0) 0) (on_its_side w m c (omega arith) (omega arith)))
-        | inr high ↦
-            get_or-append_right (take n (drop right f)) _ n (m - left) 0 (simp (length-take, length-drop) (omega arith)) high
-            ∙ get_or-replicate right (m - left - n) 0 0 (omega arith)
-            ∙ sym (ap (λ b. cond b (get_or f (m + c - 3) 0) 0) (off_end w m c (omega arith) (omega arith)))
-      ]
-]
+-- the heights that the cells of a row between its margins read from the row f
+pub row_read : (w c : ℕ) (f : List ℕ) (left right n m : ℕ) → left ≡ min (3 - c) w → right ≡ min (c - 3) w → n ≡ w - left - right → m < n → get_or (take n (drop right f)) m 0 ≡ in_row w f c (left + m)
+row_read w c f left right n m start end between within =
+    let place : right + m ≡ left + m + c - 3 = omega arith in
+    get_or-take n (drop right f) m 0 within
+    ∙ get_or-drop right f m 0
+    ∙ ap (λ p. get_or f p 0) place
+    ∙ sym (ap (λ b. cond b (get_or f (left + m + c - 3) 0) 0) (on_its_side w (left + m) c (omega arith) (omega arith)))
 
--- the margins and what lies between them make the side
-pub margins_whole : (side c start end : ℕ) → start ≡ min (3 - c) side → end ≡ min (c - 3) side → start + (side - start - end) + end ≡ side
-margins_whole side c start end s e = omega arith
+-- and the others read outside
+pub start_outside : (w c : ℕ) (f : List ℕ) (m : ℕ) → m < w → m < min (3 - c) w → in_row w f c m ≡ 0
+start_outside w c f m on low = ap (λ b. cond b (get_or f (m + c - 3) 0) 0) (off_start w m c on low)
+
+pub end_outside : (w c : ℕ) (f : List ℕ) (m : ℕ) → m < w → w - min (c - 3) w ≤ m → in_row w f c m ≡ 0
+end_outside w c f m on high = ap (λ b. cond b (get_or f (m + c - 3) 0) 0) (off_end w m c on high)
 
 -- place row × w + m is column m of that row
 at_place_is : (w : ℕ) (cell : ℕ → ℕ → ℕ) (row m : ℕ) → m < w → at_place w cell (row * w + m) ≡ cell m row

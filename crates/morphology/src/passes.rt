@@ -26,11 +26,9 @@ fn combine_row<L: Level>(op: Operation, others: &[L], cells: &mut [L], c: usize)
 {
     let w = cells.len();
     let (left, right) = margins(w, c);
-    let (first, rest) = cells.split_at_mut(left);
-    let (inside, last) = rest.split_at_mut(w - left - right);
-    combine_outside(op, first);
-    combine(op, &others[right..w - left], inside);
-    combine_outside(op, last);
+    combine_outside(op, &mut cells[..left]);
+    combine(op, &others[right..w - left], &mut cells[left..w - right]);
+    combine_outside(op, &mut cells[w - right..]);
 }
 
 // Every cell keeps the extreme of itself and of its neighbour c − 3 columns and r − 3 rows on.
@@ -62,6 +60,5 @@ pub(crate) fn pass<L: Level>(
             c,
         );
     }
-    let (_, last) = to.split_at_mut(end * w);
-    combine_outside(op, last);
+    combine_outside(op, &mut to[end * w..]);
 }

@@ -1,36 +1,42 @@
-use Rattle.std.proofs.Common.{◌≡◌, ℕ, ◌+◌, ◌-◌, map, length, get_or, take, drop, sym, ap, ◌∙◌, arith}
-use Rattle.std.proofs.lemmas.List.{length-append, length-map, length-replicate, length-drop, length-take-le}
-use Rattle.morphology.specs.Passes.{extreme}
-use Rattle.morphology.proofs.Combining.{combined_parts, get_or-combined}
-use Rattle.morphology.proofs.Passing.{heights_of_part}
-use Rattle.morphology.proofs.Rows.{margins_whole, row_read}
+use Rattle.std.proofs.Common.{◌≡◌, ◌≤◌, ◌+◌, ◌-◌, map, length, take, drop, refl, ◌∙◌, zero-add, arith}
+use Rattle.std.proofs.lemmas.List.{length-drop, length-map, length-take-le}
+use Rattle.morphology.specs.Passes.{in_row}
+use Rattle.morphology.proofs.Passing.{heights_of_part, length-rewritten, passed_combined, passed_none, passed_outside, rewritten}
+use Rattle.morphology.proofs.Rows.{end_outside, row_read, start_outside}
 use Rattle.morphology.proofs.passes.combine_row.Goals as goal
 
-last_length : (start n end last rest w : ℕ) → start + n + end ≡ w → last + n ≡ rest → rest + start ≡ w → last ≡ end
-last_length start n end last rest w a b c = omega arith
-
 pub returns : goal.returns
-returns g c m on =
+returns g c =
     let height = g.L.Level.height in
+    let op = c.args.op in
     let cells = c.args.cells.now in
     let w = length cells in
     let left = c.margins-left.result.0 in
     let right = c.margins-left.result.1 in
-    let n = w - left - right in
-    let first = c.split_at_mut-first.result.0.now in
-    let inside = c.split_at_mut-inside.result.0.now in
-    let last = c.split_at_mut-inside.result.1.now in
-    let others = take n (drop right c.args.others.now) in
-    let whole = margins_whole w c.args.c left right c.margins-left.ensures.start c.margins-left.ensures.end in
-    let long : length inside ≡ length others =
-    c.split_at_mut-inside.ensures.front_len ∙ sym (length-take-le n (drop right c.args.others.now) (rw (length-drop, c.requires) (omega (arith, whole)))) in
-    let end : length last ≡ right =
-    last_length left n right _ _ w whole c.split_at_mut-inside.ensures.back_len c.split_at_mut-first.ensures.back_len in
-    let parts = combined_parts height c.args.op cells first c.split_at_mut-first.result.1.now inside last (map height others)
-    c.combine_outside.new.cells c.combine.new.cells c.combine_outside-2.new.cells
-    c.split_at_mut-first.ensures.value c.split_at_mut-inside.ensures.value (long ∙ sym (length-map others height))
-    c.combine_outside.ensures c.combine.ensures c.combine_outside-2.ensures in
-    ap (λ xs. get_or xs m 0) parts
-    ∙ get_or-combined c.args.op (map height cells) _ m (rw length-map on) (simp (length-append, length-replicate, length-map) (omega (arith, long, whole)))
-    ∙ ap (extreme c.args.op _) (rw (c.split_at_mut-first.ensures.front_len, end, heights_of_part height n right c.args.others.now) (row_read w c.args.c (map height c.args.others.now) left right n m
-    (length-map _ _ ∙ c.requires) c.margins-left.ensures.start c.margins-left.ensures.end whole on))
+    let f = map height c.args.others.now in
+    let v = in_row w f c.args.c in
+    let start : left ≤ w = omega (arith, c.margins-left.ensures.start) in
+    let whole : left + (w - right - left) ≡ w - right = omega (arith, c.margins-left.ensures) in
+    let same : w - left - right ≡ w - right - left = omega arith in
+    let n = w - right - left in
+    let first = c.combine_outside.new.cells in
+    let second = c.combine.new.cells in
+    let first_long : length first ≡ left = c.combine_outside.auto.cells ∙ length-take-le left cells start in
+    let one = rewritten 0 left cells first in
+    let one_long : length one ≡ w = length-rewritten 0 left cells first (rw zero-add start) first_long in
+    let second_long : length second ≡ n = c.combine.auto.cells ∙ length-take-le n (drop left one) (rw (length-drop, one_long) (omega arith)) in
+    let two = rewritten left n one second in
+    let two_long : length two ≡ w = length-rewritten left n one second (rw one_long (omega (arith, whole))) second_long ∙ one_long in
+    let p =
+    passed_outside height op v (map height cells) 0 left left cells first (zero-add _) start first_long (passed_none op v _)
+    (λ m low high. start_outside w c.args.c f m (omega arith) (rw (← c.margins-left.ensures.start) high)) c.combine_outside.ensures in
+    let q =
+    passed_combined height op v (map height cells) left n (w - right) one second whole (rw one_long (omega arith)) second_long p
+    (map height (take (w - left - right) (drop right c.args.others.now)))
+    (length-map _ _ ∙ length-take-le (w - left - right) (drop right c.args.others.now) (rw (length-drop, c.requires) (omega arith)) ∙ same) (λ m h. rw heights_of_part (row_read w c.args.c f left right (w - left - right) m c.margins-left.ensures.start c.margins-left.ensures.end refl (rw same h))) c.combine.ensures in
+    let third = c.combine_outside-2.new.cells in
+    let rest = length two - (w - right) in
+    let end : w - right + rest ≡ w = rw two_long (omega arith) in
+    let third_long : length third ≡ rest = c.combine_outside-2.auto.cells ∙ length-take-le rest (drop (w - right) two) (rw length-drop (omega arith)) in
+    (passed_outside height op v (map height cells) (w - right) rest w two third end (omega (arith, two_long)) third_long q
+    (λ m low high. end_outside w c.args.c f m high (rw (← c.margins-left.ensures.end) low)) c.combine_outside-2.ensures).before

@@ -1,8 +1,9 @@
-use Rattle.std.proofs.Common.{◌≡◌, ◌≤◌, ◌<◌, ◌+◌, ◌-◌, ◌*◌, ◌++◌, map, length, get_or, take, drop, refl, sym, ap, ◌∙◌, zero-add, arith, rules}
-use Rattle.std.proofs.lemmas.List.{append-nil, drop_all, length-drop, length-take-le, take_all}
+use Rattle.std.proofs.Common.{◌≡◌, ◌≤◌, ◌<◌, ◌+◌, ◌-◌, ◌*◌, map, length, take, drop, sym, ap, ◌∙◌, zero-add, arith, rules}
+use Rattle.std.proofs.lemmas.List.{length-drop, length-take-le}
+use Rattle.std.proofs.lemmas.Nat.{mul-le}
 use Rattle.morphology.specs.Passes.{extreme, neighbour}
 use Rattle.morphology.specs.Sheets.{at_place}
-use Rattle.morphology.proofs.Passing.{heights_of_part, passed_more, passed_none, passed_outside, rewritten}
+use Rattle.morphology.proofs.Passing.{heights_of_part, passed_more, passed_none, passed_outside}
 use Rattle.morphology.proofs.Rows.{above_outside, below_outside, in_row-neighbour, next_row, on_its_side, rows_within}
 use Rattle.morphology.proofs.passes.pass.Goals as goal
 
@@ -41,6 +42,12 @@ loop-row-preserved g c =
     (rw one (next_row row w)) within (c.combine_row.auto.cells ∙ long ∙ sym one) c.loop-row.invariant
     (λ m h. c.combine_row.ensures m (rw long (rw (← one) h)) ∙ ap (extreme c.args.op _) (rw (long, heights_of_part height (source + w - source) source c.args.from.now) (in_row-neighbour w c.args.sides.h f c.args.c c.args.r row _ m same (rw (← one) h) on)))
 
+pub offset_bounds-to-end : goal.offset_bounds-to-end
+offset_bounds-to-end g c =
+    let end = c.args.sides.h - c.margins-above.result.1 in
+    let few : end * c.args.sides.w ≤ length c.args.to.now = omega (arith, rows_within c.args.sides.w c.args.sides.h end (omega arith)) in
+    search (rules, mul-le)
+
 pub returns : goal.returns
 returns g c p on =
     let height = g.L.Level.height in
@@ -53,11 +60,7 @@ returns g c p on =
     let long : length to ≡ w * h = omega arith in
     let within : end * w ≤ length to = omega (arith, rows_within w h end (omega arith)) in
     let all : c.loop-row.row ≡ end = omega (arith, c.loop-row.auto.row-end) in
-    let back : length (drop (end * w) to) ≡ n = length-drop (end * w) to in
-    let joined : c.split_at_mut-last.result.0.now ++ last ≡ rewritten (end * w) n to last =
-    rw (c.split_at_mut-last.ensures.front, drop_all n (drop (end * w) to) (omega (arith, back)), append-nil) refl in
-    let passed = passed_outside height c.args.op (at_place w (neighbour w h (map height c.args.from.now) c.args.c c.args.r)) (map height c.args.to.now) (end * w) n (w * h) to last
-    (omega (arith, long)) (omega (arith, long)) (c.combine_outside-2.auto.cells ∙ ap length c.split_at_mut-last.ensures.back ∙ back) (rw (← all) c.loop-row.invariant)
+    (passed_outside height c.args.op (at_place w (neighbour w h (map height c.args.from.now) c.args.c c.args.r)) (map height c.args.to.now) (end * w) n (w * h) to last
+    (omega (arith, long)) (omega (arith, long)) (c.combine_outside-2.auto.cells ∙ length-take-le n (drop (end * w) to) (rw length-drop (omega arith))) (rw (← all) c.loop-row.invariant)
     (λ q low high. below_outside w h _ c.args.c c.args.r q c.args.sides.some_column high (rw (← c.margins-above.ensures.end) low))
-    (rw (take_all n (drop (end * w) to) (omega (arith, back)), ← c.split_at_mut-last.ensures.back) c.combine_outside-2.ensures) in
-    ap (λ xs. get_or (map height xs) p 0) joined ∙ passed.before p on
+    c.combine_outside-2.ensures).before p on

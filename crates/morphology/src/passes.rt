@@ -53,10 +53,11 @@ pub(crate) fn pass<L: Level>(
     // By number, since a proof knows nothing of the rows that a loop over `chunks_exact_mut(w)` wrote.
     for row in above..end {
         let source = (row + r - 3) * w;
+        let target = row * w;
         combine_row(
             op,
             &from[source..source + w],
-            &mut to[row * w..row * w + w],
+            &mut to[target..target + w],
             c,
         );
     }

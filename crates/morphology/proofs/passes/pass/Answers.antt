@@ -17,8 +17,8 @@ loop-row-init g c =
     (zero-add _) within (c.combine_outside.auto.cells ∙ length-take-le (above * w) c.args.to.now within) (passed_none _ _ _)
     (λ p low high. above_outside w h _ c.args.c c.args.r p c.args.sides.some_column (omega arith) (rw (← c.margins-above.ensures.start) high)) c.combine_outside.ensures
 
-pub offset_bounds-to-row : goal.offset_bounds-to-row
-offset_bounds-to-row g c =
+pub offset_bounds-to-target : goal.offset_bounds-to-target
+offset_bounds-to-target g c =
     let row = c.loop-row.row in
     let few : row * c.args.sides.w < length c.args.to.now = omega (arith, next_row row c.args.sides.w, rows_within c.args.sides.w c.args.sides.h (row + 1) (omega arith)) in
     search rules

@@ -1,6 +1,6 @@
 -- Meet and join of two lists of heights, one height more at a time and at each place. Assumes nothing.
-use Rattle.std.proofs.Common.{◌≡◌, ℕ, zero, suc, ◌<◌, ◌≤◌, List, [], ◌∷◌, ◌++◌, ◌+◌, length, map, get_or, set, take, drop, sym, refl, ap, ◌∙◌, add-one, arith}
-use Rattle.std.proofs.lemmas.List.{append-nil, take_all, drop_all, get_or-map, map-set}
+use Rattle.std.proofs.Common.{◌≡◌, ℕ, zero, suc, ◌<◌, List, [], ◌∷◌, ◌++◌, ◌+◌, length, map, get_or, set, take, drop, sym, refl, ap, ◌∙◌, add-one, arith}
+use Rattle.std.proofs.lemmas.List.{get_or-map, map-set}
 use Rattle.morphology.specs.declared.operation.Operation.{Operation}
 use Rattle.morphology.specs.declared.operation.Operation.TheVariants.{Erosion, Dilation}
 use Rattle.morphology.specs.Cells.{cell_by_cell, combined}
@@ -37,10 +37,6 @@ combined_more height op f g xs k d y o same long within other kept below =
 combined_by_extreme : (op : Operation) (f g : List ℕ) → cell_by_cell (extreme op) f g ≡ combined op f g
 combined_by_extreme Erosion f g = refl
 combined_by_extreme Dilation f g = refl
-
--- with all heights combined
-pub combined_below_all : (op : Operation) (k : ℕ) (f g : List ℕ) → length f ≤ k → length g ≤ k → combined_below (extreme op) k f g ≡ combined op f g
-combined_below_all op k f g first second = rw (take_all k f first, take_all k g second, drop_all k f first, append-nil _) (combined_by_extreme op f g)
 
 get_or-cell_by_cell : (op : ℕ → ℕ → ℕ) (f g : List ℕ) (k : ℕ) → k < length f → k < length g → get_or (cell_by_cell op f g) k 0 ≡ op (get_or f k 0) (get_or g k 0)
 get_or-cell_by_cell op [] g k a b = absurd (omega arith)

@@ -1,6 +1,6 @@
 use Rattle.std.proofs.Common.{map, sym, ◌∙◌, arith}
 use Rattle.std.proofs.lemmas.List.{length-map}
-use Rattle.morphology.proofs.Combining.{combined_more, combined_below_all}
+use Rattle.morphology.proofs.Combining.{combined_more}
 use Rattle.morphology.proofs.Passing.{height_read}
 use Rattle.morphology.proofs.runs.combine.Goals as goal
 
@@ -10,6 +10,3 @@ loop-k-preserved g c =
     combined_more height c.args.op (map height c.args.cells.now) (map height c.args.others.now) c.loop-k.cells c.loop-k.k c.index-cells-k.result _ _
     (length-map _ _ ∙ omega arith ∙ sym (length-map _ _)) (omega arith ∙ sym (length-map _ _)) (rw length-map (omega arith))
     (sym (height_read height c.args.others.now c.loop-k.k _ (omega arith) c.index-others-k.is)) c.kept.ensures c.loop-k.invariant
-
-pub returns : goal.returns
-returns g c = c.loop-k.invariant ∙ combined_below_all c.args.op c.loop-k.k _ _ (rw length-map (omega arith)) (rw length-map (omega arith))

@@ -1,6 +1,6 @@
 use Rattle.std.proofs.Common.{map, sym, ◌∙◌, arith}
 use Rattle.std.proofs.lemmas.List.{length-map, length-replicate, get_or-replicate}
-use Rattle.morphology.proofs.Combining.{combined_more, combined_below_all}
+use Rattle.morphology.proofs.Combining.{combined_more}
 use Rattle.morphology.proofs.runs.combine_outside.Goals as goal
 
 pub loop-cell-preserved : goal.loop-cell-preserved
@@ -8,6 +8,3 @@ loop-cell-preserved g c =
     combined_more g.L.Level.height c.args.op (map g.L.Level.height c.args.cells.now) _ c.loop-cell.cells c.loop-cell.cell-index c.cell-item.result _ _
     (length-replicate _ _ ∙ sym (length-map _ _)) (omega arith ∙ sym (length-map _ _)) (rw length-map (omega arith))
     (c.lowest.ensures ∙ sym (get_or-replicate _ c.loop-cell.cell-index 0 0 (omega arith))) c.kept.ensures c.loop-cell.invariant
-
-pub returns : goal.returns
-returns g c = c.loop-cell.invariant ∙ combined_below_all c.args.op c.loop-cell.cell-index _ _ (rw length-map (omega arith)) (rw length-replicate (omega arith))

@@ -1,7 +1,5 @@
-use Rattle.std.proofs.Common.{◌≤◌, map, length, get_or, sym, ap, ◌∙◌, arith}
-use Rattle.std.proofs.lemmas.List.{take_all}
-use Rattle.elements.specs.Offsets.{flagged}
-use Rattle.morphology.specs.Passes.{extreme, neighbour, swept}
+use Rattle.std.proofs.Common.{map, get_or, sym, ap, ◌∙◌}
+use Rattle.morphology.specs.Passes.{extreme, neighbour}
 use Rattle.morphology.specs.Sheets.{at_place}
 use Rattle.morphology.proofs.Sweeping.{sweep_set, sweep_clear}
 use Rattle.morphology.proofs.sweep.sweep.Goals as goal
@@ -23,8 +21,3 @@ loop-index-preserved g c p h =
           ap (λ xs. get_or (map g.L.Level.height xs) p 0) w.to-is
           ∙ sweep_clear c.args.op sides.w sides.h f p flags index _ (sym c.holds.ensures ∙ w.if-holds.false) (c.loop-index.invariant p h)
     ]
-
-pub returns : goal.returns
-returns g c p h =
-    let all : length c.args.element.now.flags ≤ c.loop-index.index = omega arith in
-    c.loop-index.invariant p h ∙ ap (λ bs. swept c.args.op c.args.sides.w c.args.sides.h (map g.L.Level.height c.args.from.now) (flagged 0 bs) p) (take_all c.loop-index.index c.args.element.now.flags all)

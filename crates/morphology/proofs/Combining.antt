@@ -1,15 +1,42 @@
--- A pass of one sheet over the whole of another is their meet or their join. Assumes nothing.
-use Rattle.std.proofs.Common.{◌≡◌, ℕ, zero, suc, ◌+◌, ◌-◌, ◌<◌, List, [], ◌∷◌, length, get_or, sym, refl, ap, ◌∙◌, arith}
-use Rattle.std.proofs.lemmas.List.{ext_get_or}
+-- Meet and join of two lists of heights, one height more at a time and at each place. Assumes nothing.
+use Rattle.std.proofs.Common.{◌≡◌, ℕ, zero, suc, ◌<◌, List, [], ◌∷◌, ◌++◌, ◌+◌, length, map, get_or, set, take, drop, sym, refl, ap, ◌∙◌, add-one, arith}
+use Rattle.std.proofs.lemmas.List.{get_or-map, map-set}
 use Rattle.morphology.specs.declared.operation.Operation.{Operation}
 use Rattle.morphology.specs.declared.operation.Operation.TheVariants.{Erosion, Dilation}
 use Rattle.morphology.specs.Cells.{cell_by_cell, combined}
-use Rattle.morphology.specs.Passes.{Passed, extreme, in_run}
+use Rattle.morphology.specs.Passes.{extreme}
 
-length-cell_by_cell : (op : ℕ → ℕ → ℕ) (f g : List ℕ) → length f ≡ length g → length (cell_by_cell op f g) ≡ length f
-length-cell_by_cell op [] g same = refl
-length-cell_by_cell op (x ∷ f) [] same = absurd (omega arith)
-length-cell_by_cell op (x ∷ f) (y ∷ g) same = ap suc (length-cell_by_cell op f g (omega arith))
+-- the first list, its first k heights combined with those of the second
+abbrev pub combined_below : (ℕ → ℕ → ℕ) → ℕ → List ℕ → List ℕ → List ℕ
+combined_below op k f g = cell_by_cell op (take k f) (take k g) ++ drop k f
+
+-- the height at k is still the first list's
+get_or-combined_below : (op : ℕ → ℕ → ℕ) (k : ℕ) (f g : List ℕ) → length g ≡ length f → get_or (combined_below op k f g) k 0 ≡ get_or f k 0
+get_or-combined_below op zero f g same = refl
+get_or-combined_below op (suc k) [] g same = refl
+get_or-combined_below op (suc k) (x ∷ f) [] same = absurd (omega arith)
+get_or-combined_below op (suc k) (x ∷ f) (y ∷ g) same = get_or-combined_below op k f g (omega arith)
+
+combined_below_suc : (op : ℕ → ℕ → ℕ) (k : ℕ) (f g : List ℕ) → length g ≡ length f → k < length f → set (combined_below op k f g) k (op (get_or f k 0) (get_or g k 0)) ≡ combined_below op (suc k) f g
+combined_below_suc op k [] g same within = absurd (omega arith)
+combined_below_suc op k (x ∷ f) [] same within = absurd (omega arith)
+combined_below_suc op zero (x ∷ f) (y ∷ g) same within = refl
+combined_below_suc op (suc k) (x ∷ f) (y ∷ g) same within = ap (λ rest. op x y ∷ rest) (combined_below_suc op k f g (omega arith) (omega arith))
+
+-- one cell more of a list xs whose first k cells are combined: y is written at k, and o is the height of the other
+pub combined_more : {X : Type 0} (height : X → ℕ) (op : Operation) (f g : List ℕ) (xs : List X) (k : ℕ) (d y : X) (o : ℕ) → length g ≡ length f → length xs ≡ length f → k < length f → o ≡ get_or g k 0 → height y ≡ extreme op (height (get_or xs k d)) o → map height xs ≡ combined_below (extreme op) k f g → map height (set xs k y) ≡ combined_below (extreme op) (k + 1) f g
+combined_more height op f g xs k d y o same long within other kept below =
+    let first : height (get_or xs k d) ≡ get_or f k 0 =
+    sym (get_or-map height xs k d 0 (omega arith)) ∙ ap (λ zs. get_or zs k 0) below ∙ get_or-combined_below (extreme op) k f g same in
+    map-set height xs k y
+    ∙ ap (λ zs. set zs k (height y)) below
+    ∙ ap (set (combined_below (extreme op) k f g) k) (kept ∙ ap (λ z. extreme op z o) first ∙ ap (extreme op (get_or f k 0)) other)
+    ∙ combined_below_suc (extreme op) k f g same within
+    ∙ ap (λ n. combined_below (extreme op) n f g) (sym (add-one k))
+
+combined_by_extreme : (op : Operation) (f g : List ℕ) → cell_by_cell (extreme op) f g ≡ combined op f g
+combined_by_extreme Erosion f g = refl
+combined_by_extreme Dilation f g = refl
 
 get_or-cell_by_cell : (op : ℕ → ℕ → ℕ) (f g : List ℕ) (k : ℕ) → k < length f → k < length g → get_or (cell_by_cell op f g) k 0 ≡ op (get_or f k 0) (get_or g k 0)
 get_or-cell_by_cell op [] g k a b = absurd (omega arith)
@@ -17,16 +44,5 @@ get_or-cell_by_cell op (x ∷ f) [] k a b = absurd (omega arith)
 get_or-cell_by_cell op (x ∷ f) (y ∷ g) zero a b = refl
 get_or-cell_by_cell op (x ∷ f) (y ∷ g) (suc k) a b = get_or-cell_by_cell op f g k (omega arith) (omega arith)
 
-combined_by_extreme : (op : Operation) (f g : List ℕ) → cell_by_cell (extreme op) f g ≡ combined op f g
-combined_by_extreme Erosion f g = refl
-combined_by_extreme Dilation f g = refl
-
-pub passed_combined : (op : Operation) (f g is : List ℕ) (n : ℕ) → length f ≡ n → length g ≡ n → length is ≡ n → Passed op (in_run g 0 0) f is 0 (0 + n) → is ≡ combined op f g
-passed_combined op f g is n one other to passed =
-    ext_get_or 0 is (cell_by_cell (extreme op) f g) (to ∙ sym one ∙ sym (length-cell_by_cell (extreme op) f g (one ∙ sym other)))
-    (λ k h.
-    let place : 0 + (k - 0) ≡ k = omega arith in
-    passed.inside k (omega arith) (omega arith)
-    ∙ ap (λ p. extreme op (get_or f k 0) (get_or g p 0)) place
-    ∙ sym (get_or-cell_by_cell (extreme op) f g k (omega arith) (omega arith)))
-    ∙ combined_by_extreme op f g
+pub get_or-combined : (op : Operation) (f g : List ℕ) (k : ℕ) → k < length f → k < length g → get_or (combined op f g) k 0 ≡ extreme op (get_or f k 0) (get_or g k 0)
+get_or-combined op f g k a b = ap (λ xs. get_or xs k 0) (sym (combined_by_extreme op f g)) ∙ get_or-cell_by_cell (extreme op) f g k a b

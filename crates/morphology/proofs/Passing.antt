@@ -1,56 +1,73 @@
--- Passes over a stretch of places: one cell more, two stretches joined, other values. Assumes nothing.
-use Rattle.std.proofs.Common.{◌≡◌, ℕ, ◌+◌, ◌-◌, ◌<◌, ◌≤◌, ◌≢◌, List, map, length, get_or, set, sym, refl, ap, ◌∙◌, inl, inr, arith}
-use Rattle.std.proofs.lemmas.List.{get_or-map, get_or-set_same, get_or-set_other, length-map, map-set}
-use Rattle.std.proofs.lemmas.Bool.{cases_lt, cases_eq}
+-- Heights that were read, and passes over the first cells of a list, part by part. Assumes nothing.
+use Rattle.std.proofs.Common.{rules, refl, ◌≡◌, ℕ, ◌+◌, ◌-◌, ◌<◌, ◌≤◌, List, ◌++◌, map, length, get_or, take, drop, replicate, sym, ap, ◌∙◌, inl, inr, arith}
+use Rattle.std.proofs.lemmas.List.{places, get_or-drop, get_or-map, get_or-replicate, get_or-take, length-append, length-drop, length-map, length-replicate, length-take, length-take-le, map-append, take-map, drop-map}
+use Rattle.std.proofs.lemmas.Bool.{cases_lt}
 use Rattle.morphology.specs.declared.operation.Operation.{Operation}
-use Rattle.morphology.specs.Passes.{Passed, extreme, in_run}
+use Rattle.morphology.specs.Cells.{combined}
+use Rattle.morphology.specs.Passes.{extreme}
+use Rattle.morphology.proofs.Combining.{get_or-combined}
 
 -- the height of the level that a read gave
 pub height_read : {X : Type 0} (height : X → ℕ) (xs : List X) (i : ℕ) (x : X) → i < length xs → x ≡ get_or xs i x → get_or (map height xs) i 0 ≡ height x
 height_read height xs i x within read = get_or-map height xs i x 0 within ∙ ap height (sym read)
 
--- what the k-th cell of a run reads
-pub in_run-read : {X : Type 0} (height : X → ℕ) (xs : List X) (s t k : ℕ) (x : X) → s + k < length xs → x ≡ get_or xs (s + k) x → height x ≡ in_run (map height xs) s t (t + k)
-in_run-read height xs s t k x within read =
-    let place : s + (t + k - t) ≡ s + k = omega arith in
-    sym (ap (λ p. get_or (map height xs) p 0) place ∙ height_read height xs (s + k) x within read)
+-- the heights of a part of a list
+pub heights_of_part : {X : Type 0} (height : X → ℕ) (n b : ℕ) (xs : List X) → map height (take n (drop b xs)) ≡ take n (drop b (map height xs))
+heights_of_part height n b xs = sym (take-map height n (drop b xs)) ∙ ap (take n) (sym (drop-map height b xs))
 
-module _ (op : Operation) (v : ℕ → ℕ) where
-  pub passed_none : (was : List ℕ) (a : ℕ) → Passed op v was was a a
-  passed_none was a = record { inside = λ p h k. absurd (omega arith); before = λ p h. refl; after = λ p h. refl }
+-- each place p before b now has the extreme of its height and v p, and all others are as they were
+pub record Passed (op : Operation) (v : ℕ → ℕ) (was is : List ℕ) (b : ℕ) : Type 0 where
+  pub before : (p : ℕ) → p < b → get_or is p 0 ≡ extreme op (get_or was p 0) (v p)
+  pub after : (p : ℕ) → b ≤ p → get_or is p 0 ≡ get_or was p 0
 
-  -- one height written at the end of the stretch
-  passed_set : (was is : List ℕ) (a i z : ℕ) → a ≤ i → i < length is → z ≡ extreme op (get_or was i 0) (v i) → Passed op v was is a i → Passed op v was (set is i z) a (i + 1)
-  passed_set was is a i z order within value passed = record {
-    inside = λ p h k. elim (cases_eq p i) [
-      | inl e ↦ rw e (get_or-set_same is i z 0 within ∙ value)
-      | inr ne ↦ get_or-set_other is i p z 0 ne ∙ passed.inside p h (omega arith)
+pub passed_none : (op : Operation) (v : ℕ → ℕ) (was : List ℕ) → Passed op v was was 0
+passed_none op v was = record { before = λ p h. absurd (omega arith); after = λ p h. refl }
+
+-- the n cells of a list from b on, written as ys
+abbrev pub rewritten : {X : Type 0} → ℕ → ℕ → List X → List X → List X
+rewritten b n xs ys = take b xs ++ (ys ++ drop n (drop b xs))
+
+pub length-rewritten : {X : Type 0} (b n : ℕ) (xs ys : List X) → b + n ≤ length xs → length ys ≡ n → length (rewritten b n xs ys) ≡ length xs
+length-rewritten b n xs ys within long = simp (length-append, length-take, length-drop, long) (omega (arith, within))
+
+rewritten_before : (b n : ℕ) (f z : List ℕ) (p : ℕ) → b ≤ length f → p < b → get_or (rewritten b n f z) p 0 ≡ get_or f p 0
+rewritten_before b n f z p within h = search (rules, places)
+
+rewritten_at : (b n : ℕ) (f z : List ℕ) (p : ℕ) → b ≤ length f → length z ≡ n → b ≤ p → p < b + n → get_or (rewritten b n f z) p 0 ≡ get_or z (p - b) 0
+rewritten_at b n f z p within long low high = search (rules, places)
+
+rewritten_after : (b n : ℕ) (f z : List ℕ) (p : ℕ) → b ≤ length f → length z ≡ n → b + n ≤ p → get_or (rewritten b n f z) p 0 ≡ get_or f p 0
+rewritten_after b n f z p within long past = search (rules, places)
+
+map-rewritten : {X : Type 0} (height : X → ℕ) (b n : ℕ) (xs ys : List X) → map height (rewritten b n xs ys) ≡ rewritten b n (map height xs) (map height ys)
+map-rewritten height b n xs ys = rw (map-append, map-append, take-map, drop-map, drop-map) refl
+
+module _ {X : Type 0} (height : X → ℕ) (op : Operation) (v : ℕ → ℕ) (was : List ℕ) (b n e : ℕ) (xs ys : List X) (end : b + n ≡ e) (within : e ≤ length xs) (long : length ys ≡ n) (passed : Passed op v was (map height xs) b) where
+  -- the next n cells rewritten, each as the extreme of its height and v at its place
+  pub passed_more : ((m : ℕ) → m < n → get_or (map height ys) m 0 ≡ extreme op (get_or (map height (take n (drop b xs))) m 0) (v (b + m))) → Passed op v was (map height (rewritten b n xs ys)) e
+  passed_more part = rw map-rewritten record {
+    before = λ p h. elim (cases_lt p b) [
+      | inl l ↦ rewritten_before b n (map height xs) (map height ys) p (rw length-map (omega arith)) l ∙ passed.before p l
+      | inr g ↦
+          let place : b + (p - b) ≡ p = omega arith in
+          let stood : get_or (map height (take n (drop b xs))) (p - b) 0 ≡ get_or was p 0 =
+          ap (λ zs. get_or zs (p - b) 0) (heights_of_part height n b xs)
+          ∙ get_or-take n _ (p - b) 0 (omega arith) ∙ get_or-drop b _ (p - b) 0 ∙ ap (λ k. get_or (map height xs) k 0) place ∙ passed.after p g in
+          rewritten_at b n (map height xs) (map height ys) p (rw length-map (omega arith)) (rw length-map long) g (omega arith)
+          ∙ part (p - b) (omega arith) ∙ ap (λ z. extreme op z (v (b + (p - b)))) stood ∙ ap (λ k. extreme op (get_or was p 0) (v k)) place
     ];
-    before = λ p h. let ne : p ≢ i = omega arith in get_or-set_other is i p z 0 ne ∙ passed.before p h;
-    after = λ p h. let ne : p ≢ i = omega arith in get_or-set_other is i p z 0 ne ∙ passed.after p (omega arith);
+    after = λ p h. rewritten_after b n (map height xs) (map height ys) p (rw length-map (omega arith)) (rw length-map long) (omega arith) ∙ passed.after p (omega arith);
   }
 
-  -- one level written at the end of the stretch, from the level x that stood there
-  pub passed_more : {X : Type 0} (height : X → ℕ) (was : List ℕ) (xs : List X) (a i : ℕ) (x y : X) → a ≤ i → i < length xs → x ≡ get_or xs i x → height y ≡ extreme op (height x) (v i) → Passed op v was (map height xs) a i → Passed op v was (map height (set xs i y)) a (i + 1)
-  passed_more height was xs a i x y order within read value passed =
-      let stood : get_or was i 0 ≡ height x = sym (passed.after i (omega arith)) ∙ height_read height xs i x within read in
-      rw map-set (passed_set was (map height xs) a i (height y) order (rw length-map within) (rw stood value) passed)
+  -- the next n cells combined with the heights os
+  pub passed_combined : (os : List ℕ) → length os ≡ n → ((m : ℕ) → m < n → get_or os m 0 ≡ v (b + m)) → map height ys ≡ combined op (map height (take n (drop b xs))) os → Passed op v was (map height (rewritten b n xs ys)) e
+  passed_combined os same reads combined_with = passed_more (λ m h.
+      let count : length (take n (drop b xs)) ≡ n = length-take-le n (drop b xs) (rw length-drop (omega arith)) in
+      ap (λ zs. get_or zs m 0) combined_with ∙ get_or-combined op _ os m (rw (length-map, count) h) (rw same h) ∙ ap (extreme op _) (reads m h))
 
-  -- two stretches, the second from the end of the first
-  pub passed_join : (was between is : List ℕ) (a b c : ℕ) → a ≤ b → b ≤ c → Passed op v was between a b → Passed op v between is b c → Passed op v was is a c
-  passed_join was between is a b c ab bc first second = record {
-    inside = λ p h k. elim (cases_lt p b) [
-      | inl l ↦ second.before p l ∙ first.inside p h l
-      | inr g ↦ second.inside p g k ∙ ap (λ x. extreme op x (v p)) (first.after p g)
-    ];
-    before = λ p h. second.before p (omega arith) ∙ first.before p h;
-    after = λ p h. second.after p h ∙ first.after p (omega arith);
-  }
-
--- the same pass by values that agree on the stretch
-pub passed_same : (op : Operation) (v u : ℕ → ℕ) (was is : List ℕ) (a b : ℕ) → ((p : ℕ) → a ≤ p → p < b → v p ≡ u p) → Passed op v was is a b → Passed op u was is a b
-passed_same op v u was is a b same passed = record {
-  inside = λ p h k. passed.inside p h k ∙ ap (extreme op (get_or was p 0)) (same p h k);
-  before = passed.before;
-  after = passed.after;
-}
+  -- the next n cells combined with what lies outside
+  pub passed_outside : ((p : ℕ) → b ≤ p → p < e → v p ≡ 0) → map height ys ≡ combined op (map height (take n (drop b xs))) (replicate (length (take n (drop b xs))) 0) → Passed op v was (map height (rewritten b n xs ys)) e
+  passed_outside lowest combined_with =
+      let count : length (take n (drop b xs)) ≡ n = length-take-le n (drop b xs) (rw length-drop (omega arith)) in
+      passed_combined (replicate n 0) (length-replicate n 0) (λ m h. get_or-replicate n m 0 0 h ∙ sym (lowest (b + m) (omega arith) (omega arith)))
+      (combined_with ∙ ap (λ k. combined op (map height (take n (drop b xs))) (replicate k 0)) count)

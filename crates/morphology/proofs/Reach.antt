@@ -1,6 +1,6 @@
 -- What a pass reads at a place of the element's square is what the operation reads at that offset. Assumes nothing.
-use Rattle.std.proofs.Common.{◌≡◌, ℕ, ◌+◌, ◌-◌, ◌*◌, ◌/◌, ◌<◌, ◌≤◌, List, pos, negsuc, ◌+ℤ◌, ◌-ℤ◌, sym, ap, ◌∙◌, inl, inr, arith}
-use Rattle.std.proofs.lemmas.Nat.{div-mul-add, mod-mul-add}
+use Rattle.std.proofs.Common.{◌≡◌, ℕ, ◌+◌, ◌-◌, ◌/◌, ◌%◌, ◌<◌, ◌≤◌, List, pos, negsuc, ◌+ℤ◌, ◌-ℤ◌, sym, ap, ◌∙◌, inl, inr, arith}
+use Rattle.std.proofs.lemmas.Nat.{div_below, mod_below}
 use Rattle.std.proofs.lemmas.Int.{ints}
 use Rattle.std.proofs.lemmas.Bool.{cases_lt}
 use Rattle.std.proofs.lemmas.Bool.Decides.{nat_tests}
@@ -37,9 +37,6 @@ at_offset Dilation w h f c r m n small short =
     ∙ ap (height_at w h f (pos m +ℤ (pos (6 - c) -ℤ pos 3))) (opposite n r short)
     ∙ height_neighbour w h f (6 - c) (6 - r) m n)
 
--- at place k of the square, which is column c of its row r
-pub neighbour-reached : (op : Operation) (w h : ℕ) (f : List ℕ) (k c r m n : ℕ) → k ≡ r * 7 + c → c < 7 → r < 7 → neighbour w h f (turned op c) (turned op r) m n ≡ reached op w h f m n (offset_at k)
-neighbour-reached op w h f k c r m n place column row =
-    let at : offset_at k ≡ (pos c -ℤ pos 3, pos r -ℤ pos 3) =
-    ap offset_at place ∙ ap (λ x. (pos x -ℤ pos 3, pos ((r * 7 + c) / 7) -ℤ pos 3)) (mod-mul-add r 7 c column) ∙ ap (λ x. (pos c -ℤ pos 3, pos x -ℤ pos 3)) (div-mul-add r 7 c column) in
-    at_offset op w h f c r m n (omega arith) (omega arith) ∙ ap (reached op w h f m n) (sym at)
+-- at place k of the square
+pub neighbour-reached : (op : Operation) (w h : ℕ) (f : List ℕ) (k m n : ℕ) → k < 49 → neighbour w h f (turned op (k % 7)) (turned op (k / 7)) m n ≡ reached op w h f m n (offset_at k)
+neighbour-reached op w h f k m n on = at_offset op w h f (k % 7) (k / 7) m n (omega (arith, mod_below k 7 (omega arith))) (omega (arith, div_below k 7 7 (omega arith) on))

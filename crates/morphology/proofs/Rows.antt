@@ -1,50 +1,72 @@
--- Places of a sheet by row and column. Assumes nothing.
-use Rattle.std.proofs.Common.{◌≡◌, ℕ, ◌+◌, ◌-◌, ◌*◌, ◌/◌, ◌%◌, ◌<◌, ◌≤◌, true, false, cond, ◌&&◌, ltb, leb, List, get_or, sym, refl, ap, ◌∙◌, mul_comm, add-mul, one-mul, arith}
+-- What the cells of a row and the rows of a sheet read. Assumes nothing.
+use Rattle.std.proofs.Common.{◌≡◌, ℕ, ◌+◌, ◌-◌, ◌*◌, ◌/◌, ◌%◌, ◌<◌, ◌≤◌, min, Bool, ◌&&◌, true, false, cond, List, get_or, take, drop, sym, refl, ap, ◌∙◌, mul_comm, add-mul, one-mul, arith}
+use Rattle.std.proofs.lemmas.List.{get_or-take, get_or-drop}
 use Rattle.std.proofs.lemmas.Nat.{div_below, div-mul-add, le-div, mod-mul-add, mul-le}
-use Rattle.std.proofs.lemmas.Bool.{and_from, and_left, and_right, le-leb, le-ltb, lt-leb, lt-ltb}
+use Rattle.std.proofs.lemmas.Bool.Decides.{nat_tests}
 use Rattle.morphology.specs.Sheets.{at_place}
-use Rattle.morphology.specs.Passes.{on_side, neighbour, in_row, outside}
+use Rattle.morphology.specs.Passes.{on_side, in_row, neighbour}
+
+-- which places of a side have their neighbours on it
+pub on_its_side : (side x c : ℕ) → min (3 - c) side ≤ x → x < side - min (c - 3) side → on_side side x c ≡ true
+on_its_side side x c low high = grind (arith, nat_tests)
+
+pub off_start : (side x c : ℕ) → x < side → x < min (3 - c) side → on_side side x c ≡ false
+off_start side x c on low = grind (arith, nat_tests)
+
+pub off_end : (side x c : ℕ) → x < side → side - min (c - 3) side ≤ x → on_side side x c ≡ false
+off_end side x c on high = grind (arith, nat_tests)
+
+-- the heights that the cells of a row between its margins read from the row f
+pub row_read : (w c : ℕ) (f : List ℕ) (left right n m : ℕ) → left ≡ min (3 - c) w → right ≡ min (c - 3) w → n ≡ w - left - right → m < n → get_or (take n (drop right f)) m 0 ≡ in_row w f c (left + m)
+row_read w c f left right n m start end between within =
+    let place : right + m ≡ left + m + c - 3 = omega arith in
+    get_or-take n (drop right f) m 0 within
+    ∙ get_or-drop right f m 0
+    ∙ ap (λ p. get_or f p 0) place
+    ∙ sym (ap (λ b. cond b (get_or f (left + m + c - 3) 0) 0) (on_its_side w (left + m) c (omega arith) (omega arith)))
+
+-- and the others read outside
+pub start_outside : (w c : ℕ) (f : List ℕ) (m : ℕ) → m < w → m < min (3 - c) w → in_row w f c m ≡ 0
+start_outside w c f m on low = ap (λ b. cond b (get_or f (m + c - 3) 0) 0) (off_start w m c on low)
+
+pub end_outside : (w c : ℕ) (f : List ℕ) (m : ℕ) → m < w → w - min (c - 3) w ≤ m → in_row w f c m ≡ 0
+end_outside w c f m on high = ap (λ b. cond b (get_or f (m + c - 3) 0) 0) (off_end w m c on high)
 
 -- place row × w + m is column m of that row
-pub at_place_is : (w : ℕ) (cell : ℕ → ℕ → ℕ) (row m : ℕ) → m < w → at_place w cell (row * w + m) ≡ cell m row
+at_place_is : (w : ℕ) (cell : ℕ → ℕ → ℕ) (row m : ℕ) → m < w → at_place w cell (row * w + m) ≡ cell m row
 at_place_is w cell row m within = rw (div-mul-add row w m within, mod-mul-add row w m within) refl
+
+-- a row whose neighbours lie on the sheet reads the row of its neighbours
+pub in_row-neighbour : (w h : ℕ) (f : List ℕ) (c r row k m : ℕ) → k ≡ w → m < w → on_side h row r ≡ true → in_row w (take k (drop ((row + r - 3) * w) f)) c m ≡ at_place w (neighbour w h f c r) (row * w + m)
+in_row-neighbour w h f c r row k m whole within on =
+    let source = (row + r - 3) * w in
+    part (on_side w m c) refl
+    ∙ sym (ap (λ b. cond (b && on_side w m c) (get_or f (source + (m + c - 3)) 0) 0) on)
+    ∙ sym (at_place_is w (neighbour w h f c r) row m within)
+  where
+    part : (b : Bool) → b ≡ on_side w m c → cond (on_side w m c) (get_or (take k (drop ((row + r - 3) * w) f)) (m + c - 3) 0) 0 ≡ cond (on_side w m c) (get_or f ((row + r - 3) * w + (m + c - 3)) 0) 0
+    part true is =
+        let inside : m + c - 3 < k = grind (arith, nat_tests) in
+        ap (λ x. cond (on_side w m c) x 0) (get_or-take k _ (m + c - 3) 0 inside ∙ get_or-drop _ f (m + c - 3) 0)
+    part false is = rw (← is) refl
+
+-- the first rows of a sheet read outside where they read further up, and the last rows where they read further down
+pub above_outside : (w h : ℕ) (f : List ℕ) (c r p : ℕ) → 1 ≤ w → p < w * h → p < min (3 - r) h * w → at_place w (neighbour w h f c r) p ≡ 0
+above_outside w h f c r p wide on low =
+    let row : p / w < min (3 - r) h = div_below p w (min (3 - r) h) wide low in
+    let off = off_start h (p / w) r (div_below p w h wide (rw mul_comm on)) row in
+    ap (λ b. cond (b && on_side w (p % w) c) (get_or f ((p / w + r - 3) * w + (p % w + c - 3)) 0) 0) off
+
+pub below_outside : (w h : ℕ) (f : List ℕ) (c r p : ℕ) → 1 ≤ w → p < w * h → (h - min (r - 3) h) * w ≤ p → at_place w (neighbour w h f c r) p ≡ 0
+below_outside w h f c r p wide on high =
+    let row : h - min (r - 3) h ≤ p / w = le-div (h - min (r - 3) h) p w wide high in
+    let off = off_end h (p / w) r (div_below p w h wide (rw mul_comm on)) row in
+    ap (λ b. cond (b && on_side w (p % w) c) (get_or f ((p / w + r - 3) * w + (p % w + c - 3)) 0) 0) off
+
+-- the first rows of a sheet lie within it
+pub rows_within : (w h rows : ℕ) → rows ≤ h → rows * w ≤ w * h
+rows_within w h rows few = omega (arith, mul-le rows w h w few (omega arith), mul_comm w h)
 
 -- where the row after a row begins
 pub next_row : (row w : ℕ) → row * w + w ≡ (row + 1) * w
 next_row row w = sym (add-mul row 1 w ∙ ap (λ n. row * w + n) (one-mul w))
-
--- the first rows of the sheet lie within it
-pub rows_within : (w h rows : ℕ) → rows ≤ h → rows * w ≤ w * h
-rows_within w h rows few = omega (arith, mul-le rows w h w few (omega arith), mul_comm w h)
-
--- a row of the sheet ends within it
-pub row_within : (w h row : ℕ) → row < h → row * w + w ≤ w * h
-row_within w h row on = omega (arith, next_row row w, rows_within w h (row + 1) (omega arith))
-
--- a row whose neighbours lie off the sheet reads outside
-off_row : (w h : ℕ) (f : List ℕ) (c r p : ℕ) → on_side h (p / w) r ≡ false → outside p ≡ at_place w (neighbour w h f c r) p
-off_row w h f c r p off = sym (ap (λ on. cond (on && on_side w (p % w) c) (get_or f ((p / w + r - 3) * w + (p % w + c - 3)) 0) 0) off)
-
--- and so do the first rows, where they read further up
-pub above_outside : (w h : ℕ) (f : List ℕ) (c r above p : ℕ) → 1 ≤ w → above ≤ 3 - r → p < above * w → outside p ≡ at_place w (neighbour w h f c r) p
-above_outside w h f c r above p wide few low =
-    let row : p / w < above = div_below p w above (omega arith) low in
-    off_row w h f c r p (and_left (leb 3 (p / w + r)) (ltb (p / w + r) (h + 3)) (lt-leb 3 (p / w + r) (omega arith)))
-
--- and the last rows, where they read further down
-pub below_outside : (w h : ℕ) (f : List ℕ) (c r first below p : ℕ) → 1 ≤ w → h ≤ first + below → below ≤ r - 3 → first * w ≤ p → p < first * w + below * w → outside p ≡ at_place w (neighbour w h f c r) p
-below_outside w h f c r first below p wide end few low high =
-    let row : first ≤ p / w = le-div first p w (omega arith) low in
-    let some : p / w < first + below = div_below p w (first + below) (omega arith) (omega (arith, add-mul first below w)) in
-    off_row w h f c r p (and_right (leb 3 (p / w + r)) (ltb (p / w + r) (h + 3)) (le-ltb (p / w + r) (h + 3) (omega arith)))
-
--- what a row reads whose neighbours lie on the sheet, in the row `source`, is the neighbour
-pub in_row-neighbour : (w h : ℕ) (f : List ℕ) (c r row source p : ℕ) → source + 3 ≡ row + r → source < h → row * w ≤ p → p < row * w + w → in_row w f c (source * w) (row * w) p ≡ at_place w (neighbour w h f c r) p
-in_row-neighbour w h f c r row source p is within low high =
-    let m = p - row * w in
-    let place : p ≡ row * w + m = omega arith in
-    let from : source ≡ row + r - 3 = omega arith in
-    let on : on_side h row r ≡ true = and_from (leb 3 (row + r)) (ltb (row + r) (h + 3)) (le-leb 3 (row + r) (omega arith)) (lt-ltb (row + r) (h + 3) (omega arith)) in
-    let reads : in_row w f c (source * w) (row * w) p ≡ neighbour w h f c r m row =
-    ap (λ s. in_row w f c (s * w) (row * w) p) from ∙ sym (ap (λ b. cond (b && on_side w m c) (get_or f ((row + r - 3) * w + (m + c - 3)) 0) 0) on) in
-    reads ∙ sym (ap (at_place w (neighbour w h f c r)) place ∙ at_place_is w (neighbour w h f c r) row m (omega arith))

@@ -1,5 +1,5 @@
 -- A sweep over an element's square, one flag more at a time, and what it comes to at the end. Assumes nothing.
-use Rattle.std.proofs.Common.{◌≡◌, ℕ, zero, suc, ◌+◌, ◌*◌, ◌/◌, ◌%◌, ◌<◌, Bool, true, false, cond, List, [], ◌∷◌, ◌++◌, map, get_or, take, ℤ, fold, sym, refl, ap, ◌∙◌, add-zero, zero-add, add-one, arith}
+use Rattle.std.proofs.Common.{◌≡◌, ℕ, zero, suc, ◌+◌, ◌/◌, ◌%◌, ◌<◌, Bool, true, false, cond, List, [], ◌∷◌, ◌++◌, map, get_or, take, ℤ, fold, sym, refl, ap, ◌∙◌, add-zero, zero-add, add-one, arith}
 use Rattle.std.proofs.lemmas.List.{append-nil, map_push}
 use Rattle.std.proofs.lemmas.List.Sums.{fold_push}
 use Rattle.elements.specs.Offsets.{flagged, offset_at}
@@ -29,12 +29,12 @@ module _ (op : Operation) (w h : ℕ) (f : List ℕ) (p : ℕ) where
       ap (fold (extreme op) (get_or f p 0)) (map_push reach offsets o) ∙ fold_push (extreme op) (get_or f p 0) (map reach offsets) (reach o)
 
   -- one turn of the sweep, at a flag that is set and at one that is not: x is the cell before it, and y after
-  pub sweep_set : (flags : List Bool) (i c r x y : ℕ) → i ≡ r * 7 + c → c < 7 → r < 7 → get_or flags i false ≡ true → x ≡ swept op w h f (flagged 0 (take i flags)) p → y ≡ extreme op x (at_place w (neighbour w h f (turned op c) (turned op r)) p) → y ≡ swept op w h f (flagged 0 (take (i + 1) flags)) p
-  sweep_set flags i c r x y place column row held was is =
+  pub sweep_set : (flags : List Bool) (i x y : ℕ) → i < 49 → get_or flags i false ≡ true → x ≡ swept op w h f (flagged 0 (take i flags)) p → y ≡ extreme op x (at_place w (neighbour w h f (turned op (i % 7)) (turned op (i / 7))) p) → y ≡ swept op w h f (flagged 0 (take (i + 1) flags)) p
+  sweep_set flags i x y on held was is =
       let more : flagged 0 (take (i + 1) flags) ≡ flagged 0 (take i flags) ++ offset_at i ∷ [] =
       rw add-one (flagged_more 0 i flags ∙ rw (held, zero-add) refl) in
-      is ∙ ap (λ z. extreme op z (at_place w (neighbour w h f (turned op c) (turned op r)) p)) was
-      ∙ ap (extreme op _) (neighbour-reached op w h f i c r (p % w) (p / w) place column row)
+      is ∙ ap (λ z. extreme op z (at_place w (neighbour w h f (turned op (i % 7)) (turned op (i / 7))) p)) was
+      ∙ ap (extreme op _) (neighbour-reached op w h f i (p % w) (p / w) on)
       ∙ sym (ap (λ os. swept op w h f os p) more ∙ swept-push (flagged 0 (take i flags)) (offset_at i))
 
   pub sweep_clear : (flags : List Bool) (i x : ℕ) → get_or flags i false ≡ false → x ≡ swept op w h f (flagged 0 (take i flags)) p → x ≡ swept op w h f (flagged 0 (take (i + 1) flags)) p

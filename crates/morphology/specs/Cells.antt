@@ -1,16 +1,14 @@
 -- What is made or told of sheets cell by cell: meet, join, cut, and the first places of the least and the greatest height. Assumes nothing.
-use Rattle.std.specs.Prelude.{ℕ, suc, ◌*◌, min, max, cond, ◌&&◌, List, [], ◌∷◌, map, Ok, Err, Result, ◌==◌, nat_le}
+use Rattle.std.specs.Prelude.{ℕ, suc, min, max, cond, List, [], ◌∷◌, map, Result, ◌==◌, nat_le}
 use Rattle.limits.specs.declared.fault.Fault.{Fault}
-use Rattle.limits.specs.declared.fault.Fault.TheVariants.{Side, Length}
-use Rattle.limits.specs.Sizes.{lawful_side}
 use Rattle.morphology.specs.Erosion.{least, greatest}
+use Rattle.morphology.specs.Sheets.{lists_answer}
 use Rattle.morphology.specs.declared.operation.Operation.{Operation}
 use Rattle.morphology.specs.declared.operation.Operation.TheVariants.{Erosion, Dilation}
 
--- An operation on two lists to a third: both sides are lawful and every list has w × h levels, or it refuses.
+-- an operation on two lists to a third
 abbrev pub two_sheets_answer : ℕ → ℕ → ℕ → ℕ → ℕ → Result (Unit {0}) Fault
-two_sheets_answer w h one other to =
-    cond (lawful_side w && lawful_side h) (cond (one == w * h && other == w * h && to == w * h) (Ok tt) (Err Length)) (Err Side)
+two_sheets_answer w h one other to = lists_answer w h (one ∷ other ∷ to ∷ [])
 
 -- two sheets of the same sides, taken together cell by cell
 abbrev pub cell_by_cell : (ℕ → ℕ → ℕ) → List ℕ → List ℕ → List ℕ

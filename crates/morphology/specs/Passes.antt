@@ -1,5 +1,5 @@
 -- What one pass of an offset over a sheet does, for erosion and dilation alike. Assumes nothing.
-use Rattle.std.specs.Prelude.{◌≡◌, ℕ, ◌+◌, ◌-◌, ◌*◌, ◌/◌, ◌%◌, ◌<◌, ◌≤◌, min, max, Bool, cond, ◌&&◌, List, map, ℤ, pos, ◌+ℤ◌, ◌-ℤ◌, fold, nat_le, nat_lt, slice_index}
+use Rattle.std.specs.Prelude.{ℕ, ◌+◌, ◌-◌, ◌*◌, ◌/◌, ◌%◌, min, max, Bool, cond, ◌&&◌, List, map, ℤ, pos, ◌+ℤ◌, ◌-ℤ◌, fold, nat_le, nat_lt, slice_index}
 use Rattle.morphology.specs.Sheets.{height_at}
 use Rattle.morphology.specs.declared.operation.Operation.{Operation}
 use Rattle.morphology.specs.declared.operation.Operation.TheVariants.{Erosion, Dilation}
@@ -32,20 +32,6 @@ reached Dilation w h f m n o = height_at w h f (pos m -ℤ o.0) (pos n -ℤ o.1)
 abbrev pub swept : Operation → ℕ → ℕ → List ℕ → List (ℤ × ℤ) → ℕ → ℕ
 swept op w h f offsets p = fold (extreme op) (slice_index f p) (map (reached op w h f (p % w) (p / w)) offsets)
 
--- the height that a run of cells from place t on reads at place p, where place t reads the sheet's place s
-abbrev pub in_run : List ℕ → ℕ → ℕ → ℕ → ℕ
-in_run f s t p = slice_index f (s + (p - t))
-
--- the height that place p of the row from base on reads, c − 3 columns on in the row from s on
-abbrev pub in_row : ℕ → List ℕ → ℕ → ℕ → ℕ → ℕ → ℕ
-in_row w f c s base p = cond (on_side w (p - base) c) (slice_index f (s + (p - base + c - 3))) 0
-
--- what lies outside the sheet is lowest
-abbrev pub outside : ℕ → ℕ
-outside p = 0
-
--- each place p from a to b now has the extreme of its height and v p, and all others are as they were
-pub record Passed (op : Operation) (v : ℕ → ℕ) (was is : List ℕ) (a b : ℕ) : Type 0 where
-  pub inside : (p : ℕ) → a ≤ p → p < b → slice_index is p ≡ extreme op (slice_index was p) (v p)
-  pub before : (p : ℕ) → p < a → slice_index is p ≡ slice_index was p
-  pub after : (p : ℕ) → b ≤ p → slice_index is p ≡ slice_index was p
+-- the height that column m of a row of w cells reads in the row f, c − 3 columns on; outside counts as lowest
+abbrev pub in_row : ℕ → List ℕ → ℕ → ℕ → ℕ
+in_row w f c m = cond (on_side w m c) (slice_index f (m + c - 3)) 0

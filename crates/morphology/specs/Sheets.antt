@@ -1,7 +1,7 @@
 -- Sheets of heights, read by column and row. Assumes nothing.
 -- A sheet is a list of w × h heights, row by row; columns and rows count from 0.
-use Rattle.std.specs.Prelude.{ℕ, ◌+◌, ◌*◌, ◌/◌, ◌%◌, cond, ◌&&◌, List, map, ℤ, pos, negsuc, Ok, Err, fold, Result, ◌==◌, nat_lt, slice_index}
-use Rattle.std.specs.List.{range_with_len}
+use Rattle.std.specs.Prelude.{ℕ, ◌+◌, ◌*◌, ◌/◌, ◌%◌, cond, ◌&&◌, List, [], ◌∷◌, map, ℤ, pos, negsuc, Ok, Err, fold, Result, ◌==◌, nat_lt, slice_index}
+use Rattle.std.specs.List.{list_all, range_with_len}
 use Rattle.limits.specs.declared.fault.Fault.{Fault}
 use Rattle.limits.specs.declared.fault.Fault.TheVariants.{Side, Length}
 use Rattle.limits.specs.Sizes.{lawful_side}
@@ -20,10 +20,14 @@ at_place w cell p = cell (p % w) (p / w)
 abbrev pub by_cells : ℕ → ℕ → (ℕ → ℕ → ℕ) → List ℕ
 by_cells w h cell = map (at_place w cell) (range_with_len 0 (w * h))
 
--- An operation from a list to another: both sides are lawful and both lists have w × h levels, or it refuses.
+-- An operation on lists of these lengths: both sides are lawful and every list has w × h levels, or it refuses.
+abbrev pub lists_answer : ℕ → ℕ → List ℕ → Result (Unit {0}) Fault
+lists_answer w h lens =
+    cond (lawful_side w && lawful_side h) (cond (list_all (λ len. len == w * h) lens) (Ok tt) (Err Length)) (Err Side)
+
+-- an operation from a list to another
 abbrev pub sheets_answer : ℕ → ℕ → ℕ → ℕ → Result (Unit {0}) Fault
-sheets_answer w h from to =
-    cond (lawful_side w && lawful_side h) (cond (from == w * h && to == w * h) (Ok tt) (Err Length)) (Err Side)
+sheets_answer w h from to = lists_answer w h (from ∷ to ∷ [])
 
 -- the area of a sheet is the sum of its heights
 abbrev pub area : List ℕ → ℕ

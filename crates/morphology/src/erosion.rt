@@ -1,29 +1,15 @@
 // Erosion and dilation as calls of the library, each one text for every level kind.
-ghost use Rattle.std.specs.Prelude.{◌≡◌, ◌*◌, ◌≤◌, map, length, MatchResult, OnOk};
+ghost use Rattle.std.specs.Prelude.{◌≡◌, map, length, MatchResult};
 ghost use Rattle.elements.specs.Elements.{offsets};
-ghost use Rattle.morphology.specs.Erosion.{eroded, dilated};
-ghost use Rattle.morphology.specs.Erosion.{operated};
+ghost use Rattle.morphology.specs.Erosion.{eroded, dilated, operated};
 ghost use Rattle.morphology.specs.Sheets.{sheets_answer};
 
 use crate::operation::Operation;
+use crate::sheets::check_sheets;
 use crate::sweep::sweep;
 use elements::Element;
 use levels::level::Level;
 use limits::Fault;
-
-// Refuses sides and lengths that make no sheets, in the order of the refusals.
-fn check_sheets(w: usize, h: usize, from: usize, to: usize) -> Result<(), Fault>
-    ensures answers { result ≡ sheets_answer w h from to }
-    ensures sheets { OnOk result ((1 ≤ w) × (from ≡ w * h) × (to ≡ w * h)) }
-{
-    if w < 1 || w > 1024 || h < 1 || h > 1024 {
-        return Err(Fault::Side);
-    }
-    if from != w * h || to != w * h {
-        return Err(Fault::Length);
-    }
-    Ok(())
-}
 
 /// Writes what an operation by an element makes of the sheet `from` of w × h levels to the list `to`.
 /// Refuses a side that is not 1 to 1,024 (1), then a list that has not w × h levels (4), and then leaves `to` as it was.
@@ -40,10 +26,10 @@ pub fn operate<L: Level>(
         (λ _. map L.height to.new ≡ operated op w h (offsets element.now) (map L.height from.now))
         (λ _. to.new ≡ to.old) }
 {
-    check_sheets(w, h, from.len(), to.len())?;
+    let sides = check_sheets(w, h, &[from.len(), to.len()])?;
     // The element has (0, 0), so every cell may start from its own level.
     to.copy_from_slice(from);
-    sweep(op, from, to, w, h, element);
+    sweep(op, from, to, sides, element);
     Ok(())
 }
 

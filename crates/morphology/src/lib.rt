@@ -5,6 +5,7 @@ mod erosion;
 mod operation;
 mod passes;
 mod runs;
+mod sheets;
 mod sweep;
 mod transform;
 

@@ -12,6 +12,7 @@ pub enum Operation {
 }
 
 impl Operation {
+    // A switch and no closure: callers hold the operation as a value, and the compiler makes an inner loop for each of the two.
     /// The one of two levels that the operation keeps.
     pub fn kept<L: Level>(self, x: L, y: L) -> L
         ensures { L.height result ≡ extreme self (L.height x) (L.height y) }

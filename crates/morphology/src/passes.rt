@@ -1,33 +1,34 @@
 // Passes of one offset over the rows of a sheet.
-ghost use Rattle.std.specs.Prelude.{◌≡◌, ◌+◌, ◌*◌, ◌≤◌, map, length};
-ghost use Rattle.morphology.specs.Passes.{Passed, in_row, neighbour};
+ghost use Rattle.std.specs.Prelude.{◌≡◌, ◌-◌, ◌*◌, ◌≤◌, ◌<◌, ℕ, min, map, length, slice_index};
+ghost use Rattle.morphology.specs.Passes.{extreme, in_row, neighbour};
 ghost use Rattle.morphology.specs.Sheets.{at_place};
 
 use crate::operation::Operation;
 use crate::runs::{combine, combine_outside};
 use levels::level::Level;
+use limits::Sides;
 
-// One row from `base` on, which reads c − 3 columns on in the row from `source` on.
-fn pass_row<L: Level>(
-    op: Operation,
-    from: &[L],
-    to: &mut [L],
-    source: usize,
-    base: usize,
-    w: usize,
-    c: usize,
-)
-    requires offset { c ≤ 6 }
-    requires read { source + w ≤ length from.now }
-    requires row { base + w ≤ length to.old }
-    ensures { Passed op (in_row w (map L.height from.now) c source base) (map L.height to.old) (map L.height to.new) base (base + w) }
+// How many places at the start and at the end of a side have no place c − 3 places on.
+fn margins(side: usize, c: usize) -> (usize, usize)
+    ensures start { result.0 ≡ min (3 - c) side }
+    ensures end { result.1 ≡ min (c - 3) side }
 {
-    let left = 3usize.saturating_sub(c).min(w);
-    let right = c.saturating_sub(3).min(w);
-    let inside = w - left - right;
-    combine_outside(op, to, base, left);
-    combine(op, from, to, source + right, base + left, inside);
-    combine_outside(op, to, base + left + inside, right);
+    (
+        3usize.saturating_sub(c).min(side),
+        c.saturating_sub(3).min(side),
+    )
+}
+
+// Every cell of a row keeps the extreme of itself and of the cell c − 3 columns on in the row `others`.
+fn combine_row<L: Level>(op: Operation, others: &[L], cells: &mut [L], c: usize)
+    requires { length others.now ≡ length cells.old }
+    ensures { (m : ℕ) → m < length cells.old → slice_index (map L.height cells.new) m ≡ extreme op (slice_index (map L.height cells.old) m) (in_row (length cells.old) (map L.height others.now) c m) }
+{
+    let w = cells.len();
+    let (left, right) = margins(w, c);
+    combine_outside(op, &mut cells[..left]);
+    combine(op, &others[right..w - left], &mut cells[left..w - right]);
+    combine_outside(op, &mut cells[w - right..]);
 }
 
 // Every cell keeps the extreme of itself and of its neighbour c − 3 columns and r − 3 rows on.
@@ -37,23 +38,28 @@ pub(crate) fn pass<L: Level>(
     op: Operation,
     from: &[L],
     to: &mut [L],
-    w: usize,
-    h: usize,
+    sides: Sides,
     c: usize,
     r: usize,
 )
-    requires offset { (c ≤ 6) × (r ≤ 6) }
-    requires sides { (1 ≤ w) × ((w ≤ 1024) × (h ≤ 1024)) }
-    requires source { length from.now ≡ w * h }
-    requires target { length to.old ≡ w * h }
-    ensures { Passed op (at_place w (neighbour w h (map L.height from.now) c r)) (map L.height to.old) (map L.height to.new) 0 (w * h) }
+    requires source { length from.now ≡ sides.w * sides.h }
+    requires target { length to.old ≡ sides.w * sides.h }
+    ensures { (p : ℕ) → p < sides.w * sides.h → slice_index (map L.height to.new) p ≡ extreme op (slice_index (map L.height to.old) p) (at_place sides.w (neighbour sides.w sides.h (map L.height from.now) c r) p) }
 {
-    let above = 3usize.saturating_sub(r).min(h);
-    let below = r.saturating_sub(3).min(h);
-    let inside = h - above - below;
-    combine_outside(op, to, 0, above * w);
-    for row in 0..inside {
-        pass_row(op, from, to, (below + row) * w, (above + row) * w, w, c);
+    let w = sides.w;
+    let (above, below) = margins(sides.h, r);
+    let end = sides.h - below;
+    combine_outside(op, &mut to[..above * w]);
+    // By number, since a proof knows nothing of the rows that a loop over `chunks_exact_mut(w)` wrote.
+    for row in above..end {
+        let source = (row + r - 3) * w;
+        let target = row * w;
+        combine_row(
+            op,
+            &from[source..source + w],
+            &mut to[target..target + w],
+            c,
+        );
     }
-    combine_outside(op, to, (above + inside) * w, below * w);
+    combine_outside(op, &mut to[end * w..]);
 }

@@ -1,34 +1,26 @@
 // Runs of contiguous cells: the inner loops of erosion and dilation.
-ghost use Rattle.std.specs.Prelude.{◌+◌, ◌≤◌, map, length};
-ghost use Rattle.morphology.specs.Passes.{Passed, in_run, outside};
+ghost use Rattle.std.specs.Prelude.{◌≡◌, map, length, replicate};
+ghost use Rattle.morphology.specs.Cells.{combined};
 
 use crate::operation::Operation;
 use levels::level::Level;
 
-// Each of `len` cells from `t` on keeps the extreme of itself and of the cell as far past `s` in `from`.
-pub(crate) fn combine<L: Level>(
-    op: Operation,
-    from: &[L],
-    to: &mut [L],
-    s: usize,
-    t: usize,
-    len: usize,
-)
-    requires source { s + len ≤ length from.now }
-    requires target { t + len ≤ length to.old }
-    ensures { Passed op (in_run (map L.height from.now) s t) (map L.height to.old) (map L.height to.new) t (t + len) }
+// Each cell keeps the extreme of itself and of the other at its place.
+pub(crate) fn combine<L: Level>(op: Operation, others: &[L], cells: &mut [L])
+    requires { length others.now ≡ length cells.old }
+    ensures { map L.height cells.new ≡ combined op (map L.height cells.old) (map L.height others.now) }
 {
-    for k in 0..len {
-        to[t + k] = op.kept(to[t + k], from[s + k]);
+    // By number, since a proof knows nothing of the cells that a loop over `cells.iter_mut().zip(others)` wrote.
+    for (k, cell) in cells.iter_mut().enumerate() {
+        *cell = op.kept(*cell, others[k]);
     }
 }
 
-// Each of `len` cells from `t` on keeps the extreme of itself and of what lies outside the sheet.
-pub(crate) fn combine_outside<L: Level>(op: Operation, to: &mut [L], t: usize, len: usize)
-    requires { t + len ≤ length to.old }
-    ensures { Passed op outside (map L.height to.old) (map L.height to.new) t (t + len) }
+// Each cell keeps the extreme of itself and of what lies outside the sheet.
+pub(crate) fn combine_outside<L: Level>(op: Operation, cells: &mut [L])
+    ensures { map L.height cells.new ≡ combined op (map L.height cells.old) (replicate (length cells.old) 0) }
 {
-    for k in 0..len {
-        to[t + k] = op.kept(to[t + k], L::lowest());
+    for cell in cells.iter_mut() {
+        *cell = op.kept(*cell, L::lowest());
     }
 }

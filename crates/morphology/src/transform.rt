@@ -1,5 +1,5 @@
 // What makes a sheet of one or two others, whatever their level kind.
-ghost use Rattle.std.specs.Prelude.{◌≡◌, ℕ, ◌*◌, ◌≤◌, List, map, length, MatchResult, OnOk};
+ghost use Rattle.std.specs.Prelude.{◌≡◌, ℕ, List, map, length, MatchResult};
 ghost use Rattle.elements.specs.Elements.{offsets};
 ghost use Rattle.morphology.specs.Cells.{combined, two_sheets_answer};
 ghost use Rattle.morphology.specs.Erosion.{operated};
@@ -7,6 +7,7 @@ ghost use Rattle.morphology.specs.Erosion.{operated};
 use crate::erosion::operate;
 use crate::operation::Operation;
 use crate::runs::combine;
+use crate::sheets::check_sheets;
 use elements::Element;
 use levels::level::Level;
 use limits::Fault;
@@ -33,20 +34,6 @@ pub trait Transform {
             (λ _. to.new ≡ to.old) };
 }
 
-// Refuses sides and lengths that make no sheets, in the order of the refusals.
-fn check_two_sheets(w: usize, h: usize, one: usize, other: usize, to: usize) -> Result<(), Fault>
-    ensures answers { result ≡ two_sheets_answer w h one other to }
-    ensures sheets { OnOk result ((1 ≤ w) × (one ≡ w * h) × (other ≡ w * h) × (to ≡ w * h)) }
-{
-    if w < 1 || w > 1024 || h < 1 || h > 1024 {
-        return Err(Fault::Side);
-    }
-    if one != w * h || other != w * h || to != w * h {
-        return Err(Fault::Length);
-    }
-    Ok(())
-}
-
 /// The erosion or dilation of a sheet by an element.
 #[derive(Clone, Copy)]
 pub struct ByElement<'e> {
@@ -65,17 +52,9 @@ impl<'e> Transform for ByElement<'e> {
         w: usize,
         h: usize,
     ) -> Result<(), Fault> {
-        check_two_sheets(w, h, one.len(), other.len(), to.len())?;
+        check_sheets(w, h, &[one.len(), other.len(), to.len()])?;
         operate(self.op, one, to, w, h, self.element)
     }
-}
-
-// Each cell of a sheet keeps the extreme of itself and of the other sheet's cell at its place.
-fn combine_sheets<L: Level>(op: Operation, other: &[L], to: &mut [L])
-    requires { length other.now ≡ length to.old }
-    ensures { map L.height to.new ≡ combined op (map L.height to.old) (map L.height other.now) }
-{
-    combine(op, other, to, 0, 0, to.len());
 }
 
 /// The meet of two sheets, where erosion's choice of the lower level is taken at each cell, or their join, with dilation's
@@ -96,9 +75,9 @@ impl Transform for CellByCell {
         w: usize,
         h: usize,
     ) -> Result<(), Fault> {
-        check_two_sheets(w, h, one.len(), other.len(), to.len())?;
+        check_sheets(w, h, &[one.len(), other.len(), to.len()])?;
         to.copy_from_slice(one);
-        combine_sheets(self.op, other, to);
+        combine(self.op, other, to);
         Ok(())
     }
 }

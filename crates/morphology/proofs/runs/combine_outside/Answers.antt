@@ -1,12 +1,10 @@
-use Rattle.std.proofs.Common.{ap, ◌∙◌, add-zero, add_assoc, arith}
-use Rattle.morphology.specs.Passes.{extreme}
-use Rattle.morphology.proofs.Passing.{passed_none, passed_more}
+use Rattle.std.proofs.Common.{map, sym, ◌∙◌, arith}
+use Rattle.std.proofs.lemmas.List.{length-map, length-replicate, get_or-replicate}
+use Rattle.morphology.proofs.Combining.{combined_more}
 use Rattle.morphology.proofs.runs.combine_outside.Goals as goal
 
-pub loop-k-init : goal.loop-k-init
-loop-k-init g c = rw add-zero (passed_none _ _ _ _)
-
-pub loop-k-preserved : goal.loop-k-preserved
-loop-k-preserved g c =
-    rw (← add_assoc) (passed_more _ _ g.L.Level.height _ _ _ _ _ _ (omega arith) (omega arith) c.index-to-t.is
-    (c.kept.ensures ∙ ap (extreme c.args.op _) c.lowest.ensures) c.loop-k.invariant)
+pub loop-cell-preserved : goal.loop-cell-preserved
+loop-cell-preserved g c =
+    combined_more g.L.Level.height c.args.op (map g.L.Level.height c.args.cells.now) _ c.loop-cell.cells c.loop-cell.cell-index c.cell-item.result _ _
+    (length-replicate _ _ ∙ sym (length-map _ _)) (omega arith ∙ sym (length-map _ _)) (rw length-map (omega arith))
+    (c.lowest.ensures ∙ sym (get_or-replicate _ c.loop-cell.cell-index 0 0 (omega arith))) c.kept.ensures c.loop-cell.invariant

@@ -1,8 +1,9 @@
-use Rattle.std.proofs.Common.{◌+◌, map}
-use Rattle.morphology.specs.Passes.{Passed, outside}
+use Rattle.std.proofs.Common.{◌≡◌, map, length, replicate}
+use Rattle.morphology.specs.Passes.{extreme}
+use Rattle.morphology.proofs.Combining.{combined_below}
 use Rattle.morphology.proofs.runs.combine_outside.Given as goal
 
-abbrev pub invariant-loop-k : goal.invariant-loop-k
-invariant-loop-k g l =
+abbrev pub invariant-loop-cell : goal.invariant-loop-cell
+invariant-loop-cell g l =
     let heights = map g.L.Level.height in
-    Passed l.op outside (heights l.initial.to) (heights l.to) l.t (l.t + l.k)
+    heights l.cells ≡ combined_below (extreme l.op) l.cell-index (heights l.initial.cells) (replicate (length l.initial.cells) 0)

@@ -1,4 +1,4 @@
-use Rattle.std.proofs.Common.{◌≡◌, ℕ, ◌+◌, ◌*◌, ◌<◌, map, get_or, take}
+use Rattle.std.proofs.Common.{◌≡◌, ℕ, ◌*◌, ◌<◌, map, get_or, take}
 use Rattle.elements.specs.Offsets.{flagged}
 use Rattle.morphology.specs.Passes.{swept}
 use Rattle.morphology.proofs.sweep.sweep.Given as goal
@@ -6,4 +6,4 @@ use Rattle.morphology.proofs.sweep.sweep.Given as goal
 abbrev pub invariant-loop-index : goal.invariant-loop-index
 invariant-loop-index g l =
     let heights = map g.L.Level.height in
-    (l.index ≡ l.r * 7 + l.c) × (l.c < 7) × ((p : ℕ) → p < l.w * l.h → get_or (heights l.to) p 0 ≡ swept l.op l.w l.h (heights l.from) (flagged 0 (take l.index l.element.flags)) p)
+    (p : ℕ) → p < l.sides.w * l.sides.h → get_or (heights l.to) p 0 ≡ swept l.op l.sides.w l.sides.h (heights l.from) (flagged 0 (take l.index l.element.flags)) p

@@ -1,32 +1,33 @@
--- The slip at hand is that of the visit: a call on the sheets keeps it so, and end takes it. Assumes nothing.
-use Rattle.std.proofs.Common.{◌≡◌, ℕ, List, Some, None, Option, refl, ap, ◌∙◌, arith}
-use Rattle.std.proofs.lemmas.Bool.{eq-eqb}
+-- The slip at hand is that of the visit: a call on the sheets keeps it so. Assumes nothing.
+use Rattle.std.proofs.Common.{◌≡◌, ℕ, List, Some, None, Option, ap, ◌∙◌}
+use Rattle.levels.specs.declared.gray.Gray.{Gray}
+use Rattle.levels.specs.Gray.{gray_height}
 use Rattle.limits.specs.declared.fault.Fault.{Fault}
-use Rattle.bench.specs.declared.slip.Slip.{Slip}
-use Rattle.bench.specs.Model.{Outline, State}
-use Rattle.bench.specs.Calls.{end_refusal, stored}
 use Rattle.limits.specs.Faults.{unless}
-use Rattle.jobs.specs.Visits.{Holds, Keeps}
+use Rattle.bench.specs.declared.rack.Rack.{Rack}
+use Rattle.bench.specs.Model.{Outline, State, rack_outline, rack_state, slate_outline}
+use Rattle.bench.specs.Calls.{stored}
+use Rattle.jobs.specs.declared.job.Job.{Job}
+use Rattle.jobs.specs.Visits.{slip_flat}
 
--- end is not refused with the slip of the visit that is open on both
-pub end_accepted : (slip : Slip) (r s : Outline) → Holds (Some slip) r s → end_refusal r s slip.flat ≡ None
-end_accepted slip r s holds =
-    rw (holds.on_rack, holds.on_slate, eq-eqb slip.flat slip.flat refl, eq-eqb r.w s.w holds.w, eq-eqb r.h s.h holds.h) refl
+-- a call that fills a place, or is refused, keeps the sides and the visit
+record Keeps (was is : Outline) : Type 0 where
+  pub visit : is.visit ≡ was.visit
+  pub w : is.w ≡ was.w
+  pub h : is.h ≡ was.h
 
-pub end_not_refused : (slip : Slip) (r s : Outline) (fault : Fault) → Holds (Some slip) r s → end_refusal r s slip.flat ≡ Some fault → ⊥
-end_not_refused slip r s fault holds refused =
-    let accepted = end_accepted slip r s holds in
-    let z : ◌≡◌ {A = ℕ} 0 1 = cc in omega arith
-
--- a call that fills a place keeps the sides and the visit
-pub stored_keeps : (o : Option Fault) (s after : State ℕ) (k : ℕ) (cells : List ℕ) → after ≡ unless o (stored s k cells) s → Keeps s.outline after.outline
+stored_keeps : (o : Option Fault) (s after : State ℕ) (k : ℕ) (cells : List ℕ) → after ≡ unless o (stored s k cells) s → Keeps s.outline after.outline
 stored_keeps None s after k cells is = record { visit = ap (λ t. t.outline.visit) is; w = ap (λ t. t.outline.w) is; h = ap (λ t. t.outline.h) is }
 stored_keeps (Some f) s after k cells is = record { visit = ap (λ t. t.outline.visit) is; w = ap (λ t. t.outline.w) is; h = ap (λ t. t.outline.h) is }
 
-pub kept_holds : (slip : Option Slip) (was is slate : Outline) → Keeps was is → Holds slip was slate → Holds slip is slate
-kept_holds slip was is slate keeps holds = record {
-  on_rack = keeps.visit ∙ holds.on_rack;
-  on_slate = holds.on_slate;
-  w = keeps.w ∙ holds.w;
-  h = keeps.h ∙ holds.h;
-}
+-- so a job's facts hold of the rack after it
+pub still_held : (job : Job) (rack : Rack Gray) (o : Option Fault) (k : ℕ) (cells : List ℕ) → rack_state gray_height rack ≡ unless o (stored (rack_state gray_height job.rack) k cells) (rack_state gray_height job.rack) →
+    record {
+      on_rack : (rack_outline rack).visit ≡ slip_flat job.slip;
+      on_slate : (slate_outline job.slate).visit ≡ slip_flat job.slip;
+      same_width : (rack_outline rack).w ≡ (slate_outline job.slate).w;
+      same_height : (rack_outline rack).h ≡ (slate_outline job.slate).h;
+    }
+still_held job rack o k cells is =
+    let keeps = stored_keeps o _ _ k cells is in
+    record { on_rack = keeps.visit ∙ job.on_rack; on_slate = job.on_slate; same_width = keeps.w ∙ job.same_width; same_height = keeps.h ∙ job.same_height }

@@ -2,10 +2,9 @@
 #![tactic(auto)]
 
 mod answers;
+mod job;
 mod lines;
-mod obey;
 mod prepare;
 mod run;
-mod visits;
 
 pub use run::run_job;

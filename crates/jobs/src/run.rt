@@ -11,6 +11,7 @@ use crate::answers::answer_line;
 use crate::job::Job;
 use crate::lines::Lines;
 use crate::prepare::{gray_levels, prepare};
+use crate::visits::JobBench;
 use elements::Element;
 use faults::JobFault;
 use levels::Gray;
@@ -32,7 +33,7 @@ fn print_answer(
 
 // Obeys the lines of an input one after another.
 fn run_lines(heap: Global, job: &mut Job<'_, '_, '_>, input: &[u8]) -> Result<String, AllocError>
-    ensures { IfOk result (λ out. string_bytes out ≡ run_lines_lem (offsets job.old.element) (map gray_height job.old.picture.now) (benches job.old.rack job.old.slate) 1 (lines_of input.now)) }
+    ensures { IfOk result (λ out. string_bytes out ≡ run_lines_lem (offsets job.old.element) (map gray_height job.old.picture.now) (benches job.old.bench.rack job.old.bench.slate) 1 (lines_of input.now)) }
 {
     let mut out = String::new(heap);
     for (index, line) in Lines(input).enumerate() {
@@ -56,21 +57,23 @@ fn run_picture(
     let picture = gray_levels(heap, cells)?;
     let mut levels = vec![in heap; Gray::new(0); 6 * sides.cells()]?;
     let mut numbers = vec![in heap; 0; sides.cells()]?;
-    let mut job = Job::open(
+    let bench = JobBench::open(sides, levels.as_mut_slice(), numbers.as_mut_slice());
+    let picture = picture.as_slice();
+    let mut job = Job {
         element,
-        picture.as_slice(),
-        sides,
-        levels.as_mut_slice(),
-        numbers.as_mut_slice(),
-    );
+        picture,
+        bench,
+    };
     let printed = run_lines(heap, &mut job, input);
-    let _ = job.end();
+    let _ = job.bench.end();
     let Job {
         element: _,
         picture: _,
-        rack: _,
-        slate: _,
-        slip: None,
+        bench: JobBench {
+            rack: _,
+            slate: _,
+            slip: None,
+        },
     } = job
     else {
         unreachable()

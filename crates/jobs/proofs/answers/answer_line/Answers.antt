@@ -12,6 +12,6 @@ returns-in-Err c =
     let f = c.in-Err.fault in
     IfOk-weaker c.format-in-Err.result _ (λ s. string_bytes s ≡ answer_line_lem c.args.line c.args.answer)
     (λ s is. is
-      ∙ ap (λ text. codes "! " ++ (decimal c.args.line ++ (codes " " ++ text))) (regrouped (fault_layer f) (decimal (job_fault_number f)) (decimal (job_fault_place f)) (codes "\n"))
-      ∙ ap (answer_line_lem c.args.line) (sym c.in-Err.is))
+    ∙ ap (λ text. codes "! " ++ (decimal c.args.line ++ (codes " " ++ text))) (regrouped (fault_layer f) (decimal (job_fault_number f)) (decimal (job_fault_place f)) (codes "\n"))
+    ∙ ap (answer_line_lem c.args.line) (sym c.in-Err.is))
     c.format-in-Err.ensures.ok

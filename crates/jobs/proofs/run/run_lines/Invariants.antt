@@ -17,6 +17,6 @@ invariant-loop-index l =
       element : l.job.element ≡ l.initial.job.element;
       picture : l.job.picture.now ≡ l.initial.job.picture.now;
       printed :
-          string_bytes l.out ++ run_lines_lem (offsets l.initial.job.element) (map gray_height l.initial.job.picture.now) (benches l.job.rack l.job.slate) (k + 1) lines
-          ≡ run_lines_lem (offsets l.initial.job.element) (map gray_height l.initial.job.picture.now) (benches l.initial.job.rack l.initial.job.slate) 1 (lines_of l.input);
+          string_bytes l.out ++ run_lines_lem (offsets l.initial.job.element) (map gray_height l.initial.job.picture.now) (benches l.job.bench.rack l.job.bench.slate) (k + 1) lines
+          ≡ run_lines_lem (offsets l.initial.job.element) (map gray_height l.initial.job.picture.now) (benches l.initial.job.bench.rack l.initial.job.bench.slate) 1 (lines_of l.input);
     }

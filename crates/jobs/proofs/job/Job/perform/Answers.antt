@@ -9,19 +9,19 @@ use Rattle.jobs.proofs.Numbers.{operation_refused, operation_leaves}
 use Rattle.jobs.proofs.Slips.{still_held}
 use Rattle.jobs.proofs.job.Job.perform.Goals as goal
 
-pub invariant_of-self : goal.invariant_of-self
-invariant_of-self c = still_held c.args.self.now c.load.new.self _ _ _ c.load.ensures.steps
+pub invariant_of-bench : goal.invariant_of-bench
+invariant_of-bench c = still_held c.args.self.now.bench c.load.new.self _ _ _ c.load.ensures.steps
 
-pub invariant_of-self-in-Erode : goal.invariant_of-self-in-Erode
-invariant_of-self-in-Erode c = still_held c.args.self.now c.erode.new.self _ _ _ c.erode.ensures.steps
+pub invariant_of-bench-in-Erode : goal.invariant_of-bench-in-Erode
+invariant_of-bench-in-Erode c = still_held c.args.self.now.bench c.erode.new.self _ _ _ c.erode.ensures.steps
 
-pub invariant_of-self-in-Dilate : goal.invariant_of-self-in-Dilate
-invariant_of-self-in-Dilate c = still_held c.args.self.now c.dilate.new.self _ _ _ c.dilate.ensures.steps
+pub invariant_of-bench-in-Dilate : goal.invariant_of-bench-in-Dilate
+invariant_of-bench-in-Dilate c = still_held c.args.self.now.bench c.dilate.new.self _ _ _ c.dilate.ensures.steps
 
 pub returns-in_err-erode-in-Erode-clause-answers : goal.returns-in_err-erode-in-Erode-clause-answers
 returns-in_err-erode-in-Erode-clause-answers c =
     let job = c.args.self.now in
-    let bench = benches job.rack job.slate in
+    let bench = benches job.bench.rack job.bench.slate in
     let picture = map gray_height job.picture.now in
     let told_back = err_from_is_err_and c.from_residual-in_err-erode-in-Erode.result c.from_residual-in_err-erode-in-Erode.ensures.1 in
     told_back.1 ∙ ap Err told_back.2
@@ -31,7 +31,7 @@ returns-in_err-erode-in-Erode-clause-answers c =
 pub returns-in_err-erode-in-Erode-clause-steps : goal.returns-in_err-erode-in-Erode-clause-steps
 returns-in_err-erode-in-Erode-clause-steps c =
     let job = c.args.self.now in
-    let bench = benches job.rack job.slate in
+    let bench = benches job.bench.rack job.bench.slate in
     let picture = map gray_height job.picture.now in
     let shape = offsets job.element in
     operation_leaves Erosion bench shape picture c.args.command _ _ _ _ c.from-in-Erode.ensures c.from-in-Erode-2.ensures _ (ap (command_leaves shape picture bench) c.in-Erode.is) c.erode.ensures.steps
@@ -39,7 +39,7 @@ returns-in_err-erode-in-Erode-clause-steps c =
 pub returns-in_err-dilate-in-Dilate-clause-answers : goal.returns-in_err-dilate-in-Dilate-clause-answers
 returns-in_err-dilate-in-Dilate-clause-answers c =
     let job = c.args.self.now in
-    let bench = benches job.rack job.slate in
+    let bench = benches job.bench.rack job.bench.slate in
     let picture = map gray_height job.picture.now in
     let told_back = err_from_is_err_and c.from_residual-in_err-dilate-in-Dilate.result c.from_residual-in_err-dilate-in-Dilate.ensures.1 in
     told_back.1 ∙ ap Err told_back.2
@@ -49,7 +49,7 @@ returns-in_err-dilate-in-Dilate-clause-answers c =
 pub returns-in_err-dilate-in-Dilate-clause-steps : goal.returns-in_err-dilate-in-Dilate-clause-steps
 returns-in_err-dilate-in-Dilate-clause-steps c =
     let job = c.args.self.now in
-    let bench = benches job.rack job.slate in
+    let bench = benches job.bench.rack job.bench.slate in
     let picture = map gray_height job.picture.now in
     let shape = offsets job.element in
     operation_leaves Dilation bench shape picture c.args.command _ _ _ _ c.from-in-Dilate.ensures c.from-in-Dilate-2.ensures _ (ap (command_leaves shape picture bench) c.in-Dilate.is) c.dilate.ensures.steps

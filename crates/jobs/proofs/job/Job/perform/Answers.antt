@@ -1,10 +1,6 @@
-use Rattle.std.proofs.Common.{map, Err, ap, ◌∙◌}
+use Rattle.std.proofs.Common.{Err, ap, ◌∙◌}
 use Rattle.std.proofs.lemmas.Result.{err_from_is_err_and}
-use Rattle.elements.specs.Elements.{offsets}
-use Rattle.levels.specs.Gray.{gray_height}
-use Rattle.limits.specs.Faults.{tells}
 use Rattle.morphology.specs.declared.operation.Operation.TheVariants.{Erosion, Dilation}
-use Rattle.jobs.specs.Commands.{benches, command_leaves, command_refusal, command_tells}
 use Rattle.jobs.proofs.Numbers.{operation_refused, operation_leaves}
 use Rattle.jobs.proofs.Slips.{still_held}
 use Rattle.jobs.proofs.job.Job.perform.Goals as goal
@@ -20,36 +16,20 @@ invariant_of-bench-in-Dilate c = still_held c.args.self.now.bench c.dilate.new.s
 
 pub returns-in_err-erode-in-Erode-clause-answers : goal.returns-in_err-erode-in-Erode-clause-answers
 returns-in_err-erode-in-Erode-clause-answers c =
-    let job = c.args.self.now in
-    let bench = benches job.bench.rack job.bench.slate in
-    let picture = map gray_height job.picture.now in
     let told_back = err_from_is_err_and c.from_residual-in_err-erode-in-Erode.result c.from_residual-in_err-erode-in-Erode.ensures.1 in
     told_back.1 ∙ ap Err told_back.2
-    ∙ operation_refused Erosion bench (offsets job.element) picture c.args.command _ _ _ _ c.from-in-Erode.ensures c.from-in-Erode-2.ensures _
-    (ap (λ m. tells (command_refusal picture bench m) (command_tells bench m)) c.in-Erode.is) c.in_err-erode-in-Erode.ensures.answers
+    ∙ operation_refused Erosion c.args.self.now c.args.command _ _ _ _ c.in-Erode.is c.from-in-Erode.ensures c.from-in-Erode-2.ensures _ c.in_err-erode-in-Erode.ensures.answers
 
 pub returns-in_err-erode-in-Erode-clause-steps : goal.returns-in_err-erode-in-Erode-clause-steps
 returns-in_err-erode-in-Erode-clause-steps c =
-    let job = c.args.self.now in
-    let bench = benches job.bench.rack job.bench.slate in
-    let picture = map gray_height job.picture.now in
-    let shape = offsets job.element in
-    operation_leaves Erosion bench shape picture c.args.command _ _ _ _ c.from-in-Erode.ensures c.from-in-Erode-2.ensures _ (ap (command_leaves shape picture bench) c.in-Erode.is) c.erode.ensures.steps
+    operation_leaves Erosion c.args.self.now c.args.command _ _ _ _ c.in-Erode.is c.from-in-Erode.ensures c.from-in-Erode-2.ensures _ c.erode.ensures.steps
 
 pub returns-in_err-dilate-in-Dilate-clause-answers : goal.returns-in_err-dilate-in-Dilate-clause-answers
 returns-in_err-dilate-in-Dilate-clause-answers c =
-    let job = c.args.self.now in
-    let bench = benches job.bench.rack job.bench.slate in
-    let picture = map gray_height job.picture.now in
     let told_back = err_from_is_err_and c.from_residual-in_err-dilate-in-Dilate.result c.from_residual-in_err-dilate-in-Dilate.ensures.1 in
     told_back.1 ∙ ap Err told_back.2
-    ∙ operation_refused Dilation bench (offsets job.element) picture c.args.command _ _ _ _ c.from-in-Dilate.ensures c.from-in-Dilate-2.ensures _
-    (ap (λ m. tells (command_refusal picture bench m) (command_tells bench m)) c.in-Dilate.is) c.in_err-dilate-in-Dilate.ensures.answers
+    ∙ operation_refused Dilation c.args.self.now c.args.command _ _ _ _ c.in-Dilate.is c.from-in-Dilate.ensures c.from-in-Dilate-2.ensures _ c.in_err-dilate-in-Dilate.ensures.answers
 
 pub returns-in_err-dilate-in-Dilate-clause-steps : goal.returns-in_err-dilate-in-Dilate-clause-steps
 returns-in_err-dilate-in-Dilate-clause-steps c =
-    let job = c.args.self.now in
-    let bench = benches job.bench.rack job.bench.slate in
-    let picture = map gray_height job.picture.now in
-    let shape = offsets job.element in
-    operation_leaves Dilation bench shape picture c.args.command _ _ _ _ c.from-in-Dilate.ensures c.from-in-Dilate-2.ensures _ (ap (command_leaves shape picture bench) c.in-Dilate.is) c.dilate.ensures.steps
+    operation_leaves Dilation c.args.self.now c.args.command _ _ _ _ c.in-Dilate.is c.from-in-Dilate.ensures c.from-in-Dilate-2.ensures _ c.dilate.ensures.steps

@@ -1,6 +1,5 @@
-// What a job works with: its element, its picture and the memory of its bench.
-ghost use Rattle.std.specs.Prelude.{◌≡◌, ◌≤◌, true, false, ◌&&◌, map, length, IfOk, Ok, Err, vec_len, MatchResult, nat_le};
-ghost use Rattle.limits.specs.declared.fault.Fault.TheVariants.{Side};
+// What a job works with: its element and its picture.
+ghost use Rattle.std.specs.Prelude.{◌≡◌, ◌≤◌, map, length, IfOk, Ok, Err, MatchResult};
 ghost use Rattle.jobs.specs.Runs.{prepared};
 ghost use Rattle.levels.specs.Gray.{gray_height};
 

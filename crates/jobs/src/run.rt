@@ -65,6 +65,7 @@ fn run_picture(
         bench,
     };
     let printed = run_lines(heap, &mut job, input);
+    // The bench is let go here: the check covers no `drop` and no method that takes it by value.
     let _ = job.bench.end();
     let Job {
         element: _,

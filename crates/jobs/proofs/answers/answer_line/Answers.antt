@@ -1,6 +1,6 @@
 use Rattle.std.proofs.Common.{◌≡◌, ℕ, ◌++◌, List, codes, decimal, string_bytes, sym, ap, ◌∙◌, append_assoc}
 use Rattle.std.proofs.lemmas.Result.{IfOk-weaker}
-use Rattle.faults.specs.Faults.{fault_layer, fault_text, job_fault_number, job_fault_place}
+use Rattle.faults.specs.Faults.{fault_layer, job_fault_number, job_fault_place}
 use Rattle.jobs.specs.Answers.{answer_line_lem}
 use Rattle.jobs.proofs.answers.answer_line.Goals as goal
 

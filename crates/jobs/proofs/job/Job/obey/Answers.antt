@@ -1,4 +1,4 @@
-use Rattle.std.proofs.Common.{map, Ok, Err, sym, ap, ◌∙◌}
+use Rattle.std.proofs.Common.{map, Err, sym, ap, ◌∙◌}
 use Rattle.std.proofs.lemmas.Result.{err_from_is_err_and}
 use Rattle.levels.specs.Gray.{gray_height}
 use Rattle.jobs.specs.Commands.{answer_to, benches}

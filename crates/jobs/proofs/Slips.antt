@@ -1,12 +1,15 @@
 -- The slip at hand is that of the visit: a call on the sheets keeps it so. Assumes nothing.
-use Rattle.std.proofs.Common.{◌≡◌, ℕ, List, Some, None, Option, ap, ◌∙◌}
+use Rattle.std.proofs.Common.{◌≡◌, ℕ, List, Some, None, Option, sym, refl, ap, ◌∙◌}
+use Rattle.std.proofs.lemmas.Bool.{eq-eqb}
 use Rattle.levels.specs.declared.gray.Gray.{Gray}
 use Rattle.levels.specs.Gray.{gray_height}
 use Rattle.limits.specs.declared.fault.Fault.{Fault}
 use Rattle.limits.specs.Faults.{unless}
 use Rattle.bench.specs.declared.rack.Rack.{Rack}
-use Rattle.bench.specs.Model.{Outline, State, rack_outline, rack_state, slate_outline}
-use Rattle.bench.specs.Calls.{stored}
+use Rattle.bench.specs.Model.{Outline, State, rack_outline, rack_state, slate_outline, slate_state}
+use Rattle.bench.specs.declared.slate.Slate.{Slate}
+use Rattle.bench.specs.declared.slip.Slip.{Slip}
+use Rattle.bench.specs.Calls.{end_refusal, ended, stored}
 use Rattle.jobs.specs.declared.visits.JobBench.{JobBench}
 use Rattle.jobs.specs.Visits.{slip_flat}
 
@@ -31,3 +34,33 @@ pub still_held : (bench : JobBench) (rack : Rack Gray) (o : Option Fault) (k : �
 still_held bench rack o k cells is =
     let keeps = stored_keeps o _ _ k cells is in
     record { on_rack = keeps.visit ∙ bench.on_rack; on_slate = bench.on_slate; same_width = keeps.w ∙ bench.same_width; same_height = keeps.h ∙ bench.same_height }
+
+-- end takes the slip of the visit that is open on both, and no visit is then open on either
+end_accepted : (slip : Slip) (bench : JobBench) → bench.slip ≡ Some slip → end_refusal (rack_outline bench.rack) (slate_outline bench.slate) slip.flat ≡ None
+end_accepted slip bench held =
+    let r = rack_outline bench.rack in
+    let s = slate_outline bench.slate in
+    let on_rack : r.visit ≡ Some slip.flat = bench.on_rack ∙ ap slip_flat held in
+    let on_slate : s.visit ≡ Some slip.flat = bench.on_slate ∙ ap slip_flat held in
+    rw (on_rack, on_slate, eq-eqb slip.flat slip.flat refl, eq-eqb r.w s.w bench.same_width, eq-eqb r.h s.h bench.same_height) refl
+
+pub end_holds : (slip : Slip) (bench : JobBench) (rack : Rack Gray) (slate : Slate) (left : Option Slip) → bench.slip ≡ Some slip → left ≡ None →
+    let refused = end_refusal (rack_outline bench.rack) (slate_outline bench.slate) slip.flat in
+    rack_state gray_height rack ≡ unless refused (ended (rack_state gray_height bench.rack)) (rack_state gray_height bench.rack) →
+    slate_state slate ≡ unless refused (ended (slate_state bench.slate)) (slate_state bench.slate) →
+    record {
+      on_rack : (rack_outline rack).visit ≡ slip_flat left;
+      on_slate : (slate_outline slate).visit ≡ slip_flat left;
+      same_width : (rack_outline rack).w ≡ (slate_outline slate).w;
+      same_height : (rack_outline rack).h ≡ (slate_outline slate).h;
+    }
+end_holds slip bench rack slate left held none racks slates =
+    let accepted = end_accepted slip bench held in
+    let r : rack_state gray_height rack ≡ ended (rack_state gray_height bench.rack) = racks ∙ ap (λ o. unless o (ended (rack_state gray_height bench.rack)) (rack_state gray_height bench.rack)) accepted in
+    let s : slate_state slate ≡ ended (slate_state bench.slate) = slates ∙ ap (λ o. unless o (ended (slate_state bench.slate)) (slate_state bench.slate)) accepted in
+    record {
+      on_rack = ap (λ t. t.outline.visit) r ∙ sym (ap slip_flat none);
+      on_slate = ap (λ t. t.outline.visit) s ∙ sym (ap slip_flat none);
+      same_width = ap (λ t. t.outline.w) r ∙ bench.same_width ∙ sym (ap (λ t. t.outline.w) s);
+      same_height = ap (λ t. t.outline.h) r ∙ bench.same_height ∙ sym (ap (λ t. t.outline.h) s);
+    }

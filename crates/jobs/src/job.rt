@@ -20,7 +20,6 @@ pub(crate) struct Job<'a, 'b, 'c> {
 }
 
 impl Job<'_, '_, '_> {
-    #[tactic(auto, using(crate::proofs::Refusals::refused_tells))]
     // Does a command, and tells the area where that is asked.
     fn perform(&mut self, command: Command) -> Result<Option<u64>, Fault>
         ensures answers { result ≡ tells (command_refusal (map gray_height self.old.picture.now) (benches self.old.bench.rack self.old.bench.slate) command) (command_tells (benches self.old.bench.rack self.old.bench.slate) command) }

@@ -1,7 +1,13 @@
-use Rattle.std.proofs.Common.{Err, ap, ◌∙◌}
+use Rattle.std.proofs.Common.{map, Some, None, Err, sym, ap, ◌∙◌}
 use Rattle.std.proofs.lemmas.Result.{err_from_is_err_and}
+use Rattle.levels.specs.Gray.{gray_height}
+use Rattle.limits.specs.Faults.{tells}
+use Rattle.morphology.specs.Sheets.{area}
+use Rattle.bench.specs.Calls.{transform_refusal}
 use Rattle.morphology.specs.declared.operation.Operation.TheVariants.{Erosion, Dilation}
 use Rattle.jobs.proofs.Numbers.{operation_refused, operation_leaves}
+use Rattle.jobs.specs.Commands.{benches, command_refusal, command_tells}
+use Rattle.jobs.proofs.Refusals.{refused_area, refused_tells}
 use Rattle.jobs.proofs.Slips.{still_held}
 use Rattle.jobs.proofs.job.Job.perform.Goals as goal
 
@@ -33,3 +39,22 @@ returns-in_err-dilate-in-Dilate-clause-answers c =
 pub returns-in_err-dilate-in-Dilate-clause-steps : goal.returns-in_err-dilate-in-Dilate-clause-steps
 returns-in_err-dilate-in-Dilate-clause-steps c =
     operation_leaves Dilation c.args.self.now c.args.command _ _ _ _ c.in-Dilate.is c.from-in-Dilate.ensures c.from-in-Dilate-2.ensures _ c.dilate.ensures.steps
+
+pub returns-in_err-area-in-Area-clause-answers : goal.returns-in_err-area-in-Area-clause-answers
+returns-in_err-area-in-Area-clause-answers c =
+    let told_back = err_from_is_err_and c.from_residual-in_err-area-in-Area.result c.from_residual-in_err-area-in-Area.ensures.1 in
+    let job = c.args.self.now in
+    let bench = benches job.bench.rack job.bench.slate in
+    told_back.1 ∙ ap Err told_back.2
+    ∙ refused_area _ _ _ c.in_err-area-in-Area.ensures
+    ∙ ap (λ k. tells (transform_refusal bench.rack.outline k k) (Some (area (bench.rack.content k)))) c.from-in-Area.ensures
+    ∙ ap (λ m. tells (command_refusal (map gray_height job.picture.now) bench m) (command_tells bench m)) (sym c.in-Area.is)
+
+pub returns-in_err-end-in-End-clause-answers : goal.returns-in_err-end-in-End-clause-answers
+returns-in_err-end-in-End-clause-answers c =
+    let told_back = err_from_is_err_and c.from_residual-in_err-end-in-End.result c.from_residual-in_err-end-in-End.ensures.1 in
+    let job = c.args.self.now in
+    let bench = benches job.bench.rack job.bench.slate in
+    told_back.1 ∙ ap Err told_back.2
+    ∙ refused_tells _ _ None c.in_err-end-in-End.ensures.answers
+    ∙ ap (λ m. tells (command_refusal (map gray_height job.picture.now) bench m) (command_tells bench m)) (sym c.in-End.is)

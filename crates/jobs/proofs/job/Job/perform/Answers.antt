@@ -20,6 +20,10 @@ invariant_of-bench-in-Erode c = still_held c.args.self.now.bench c.erode.new.sel
 pub invariant_of-bench-in-Dilate : goal.invariant_of-bench-in-Dilate
 invariant_of-bench-in-Dilate c = still_held c.args.self.now.bench c.dilate.new.self _ _ _ c.dilate.ensures.steps
 
+pub returns-in_ok-erode-in-Erode-clause-steps : goal.returns-in_ok-erode-in-Erode-clause-steps
+returns-in_ok-erode-in-Erode-clause-steps c =
+    operation_leaves Erosion c.args.self.now c.args.command _ _ _ _ c.in-Erode.is c.from-in-Erode.ensures c.from-in-Erode-2.ensures _ c.erode.ensures.steps
+
 pub returns-in_err-erode-in-Erode-clause-answers : goal.returns-in_err-erode-in-Erode-clause-answers
 returns-in_err-erode-in-Erode-clause-answers c =
     let told_back = err_from_is_err_and c.from_residual-in_err-erode-in-Erode.result c.from_residual-in_err-erode-in-Erode.ensures.1 in
@@ -29,6 +33,10 @@ returns-in_err-erode-in-Erode-clause-answers c =
 pub returns-in_err-erode-in-Erode-clause-steps : goal.returns-in_err-erode-in-Erode-clause-steps
 returns-in_err-erode-in-Erode-clause-steps c =
     operation_leaves Erosion c.args.self.now c.args.command _ _ _ _ c.in-Erode.is c.from-in-Erode.ensures c.from-in-Erode-2.ensures _ c.erode.ensures.steps
+
+pub returns-in_ok-dilate-in-Dilate-clause-steps : goal.returns-in_ok-dilate-in-Dilate-clause-steps
+returns-in_ok-dilate-in-Dilate-clause-steps c =
+    operation_leaves Dilation c.args.self.now c.args.command _ _ _ _ c.in-Dilate.is c.from-in-Dilate.ensures c.from-in-Dilate-2.ensures _ c.dilate.ensures.steps
 
 pub returns-in_err-dilate-in-Dilate-clause-answers : goal.returns-in_err-dilate-in-Dilate-clause-answers
 returns-in_err-dilate-in-Dilate-clause-answers c =

@@ -19,6 +19,7 @@ abbrev pub asks_for : Operation → ℕ → ℕ → Command
 asks_for Erosion from to = Erode from to
 asks_for Dilation from to = Dilate from to
 
+-- what such a command is refused and tells, and what it leaves
 refusal_asked : (op : Operation) (picture : List ℕ) (b : Benches) (from to : ℕ) → tells (command_refusal picture b (asks_for op from to)) (command_tells b (asks_for op from to)) ≡ tells (transform_refusal b.rack.outline from to) None
 refusal_asked Erosion picture b from to = refl
 refusal_asked Dilation picture b from to = refl

@@ -10,7 +10,7 @@ pub refused_tells : (o : Option Fault) (e : Fault) (x : Option ℕ) → Err e �
 refused_tells None e x h = absurd (let z : ◌≡◌ {A = ℕ} 0 1 = cc in omega arith)
 refused_tells (Some f) e x h = cc
 
--- nor does what a call would have told count where it is refused
+-- a refused area is none that is told
 pub refused_area : (o : Option Fault) (e : Fault) (n : ℕ) → Err e ≡ tells o n → Err e ≡ tells o (Some n)
 refused_area None e n h = absurd (let z : ◌≡◌ {A = ℕ} 0 1 = cc in omega arith)
 refused_area (Some f) e n h = cc

@@ -35,7 +35,7 @@ still_held bench rack o k cells is =
     let keeps = stored_keeps o _ _ k cells is in
     record { on_rack = keeps.visit ∙ bench.on_rack; on_slate = bench.on_slate; same_width = keeps.w ∙ bench.same_width; same_height = keeps.h ∙ bench.same_height }
 
--- end takes the slip of the visit that is open on both, and no visit is then open on either
+-- end is not refused with the slip of the visit that is open on both
 end_accepted : (slip : Slip) (bench : JobBench) → bench.slip ≡ Some slip → end_refusal (rack_outline bench.rack) (slate_outline bench.slate) slip.flat ≡ None
 end_accepted slip bench held =
     let r = rack_outline bench.rack in
@@ -44,6 +44,7 @@ end_accepted slip bench held =
     let on_slate : s.visit ≡ Some slip.flat = bench.on_slate ∙ ap slip_flat held in
     rw (on_rack, on_slate, eq-eqb slip.flat slip.flat refl, eq-eqb r.w s.w bench.same_width, eq-eqb r.h s.h bench.same_height) refl
 
+-- after it no visit is open on either, and no slip is left
 pub end_holds : (slip : Slip) (bench : JobBench) (rack : Rack Gray) (slate : Slate) (left : Option Slip) → bench.slip ≡ Some slip → left ≡ None →
     let refused = end_refusal (rack_outline bench.rack) (slate_outline bench.slate) slip.flat in
     rack_state gray_height rack ≡ unless refused (ended (rack_state gray_height bench.rack)) (rack_state gray_height bench.rack) →

@@ -7,14 +7,17 @@ use Rattle.std.specs.List.{position_or_len}
 use Rattle.std.specs.Option.{unwrap_or}
 use Rattle.jobs.specs.Lines.{lines_of, onto_first}
 
+-- a byte more of a line, and the lines after it
 longer_line : (b : ℕ) (bs : List ℕ) (m n : ℕ) → n ≡ suc m → (b ∷ take m bs) ∷ lines_of (drop 1 (drop m bs)) ≡ take n (b ∷ bs) ∷ lines_of (drop 1 (drop n (b ∷ bs)))
 longer_line b bs m n is = rw is refl
 
+-- the first line by whether its first byte ends it
 first_line_by : (b : ℕ) (bs : List ℕ) (ends : Bool) → (b == 10) ≡ ends → let n = position_or_len (λ x. x == 10) (b ∷ bs) in lines_of (b ∷ bs) ≡ take n (b ∷ bs) ∷ lines_of (drop 1 (drop n (b ∷ bs)))
 first_line_by b bs true is = rw is refl
 first_line_by b [] false is = rw is refl
 first_line_by b (c ∷ bs) false is = rw is (ap (onto_first b) (first_line_by c bs (c == 10) refl) ∙ longer_line b (c ∷ bs) _ _ (omega arith))
 
+-- a line ends at its newline or at the end
 line_end : (xs : List ℕ) → unwrap_or (position (λ x. x == 10) xs) (length xs) ≡ position_or_len (λ x. x == 10) xs
 line_end xs = grind (arith, nat_tests, prefix_len-le-length (λ x. not (x == 10)) xs)
 
@@ -35,12 +38,13 @@ next_line input line rest n k some ends front back one =
     let after : drop 1 (drop n input) ≡ take (length rest - k) (drop k rest) = ap (drop 1) (sym back) ∙ behind_newline rest k one ∙ sym (take_rest rest k) in
     first_line input n some ends ∙ (λ i. sym front i ∷ lines_of (after i))
 
--- there are no more lines than bytes
+-- a byte more makes one line more at most
 lines_within_by : (b : ℕ) (lines : List (List ℕ)) (n : ℕ) (ends : Bool) → length lines ≤ n → length (cond ends ([] ∷ lines) (onto_first b lines)) ≤ suc n
 lines_within_by b lines n true h = omega arith
 lines_within_by b [] n false h = omega arith
 lines_within_by b (line ∷ lines) n false h = omega arith
 
+-- there are no more lines than bytes
 pub lines_within : (input : List ℕ) → length (lines_of input) ≤ length input
 lines_within [] = omega arith
 lines_within (b ∷ bs) = lines_within_by b (lines_of bs) (length bs) (b == 10) (lines_within bs)

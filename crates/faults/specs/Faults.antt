@@ -1,5 +1,5 @@
 -- A job's fault: the fault of the layer below, whole. Assumes nothing.
-use Rattle.std.specs.Prelude.{ℕ, List, codes}
+use Rattle.std.specs.Prelude.{ℕ, List, ◌++◌, codes, decimal}
 use Rattle.elements.specs.Cards.{card_fault_number, card_fault_place}
 use Rattle.pictures.specs.Headers.{picture_fault_number, picture_fault_place}
 use Rattle.limits.specs.Faults.{fault_number}
@@ -26,3 +26,7 @@ job_fault_place (Card f) = card_fault_place f
 job_fault_place (Picture f) = picture_fault_place f
 job_fault_place (Bench f) = 0
 job_fault_place (Line f) = f.column
+
+-- the letter of the layer, the number and the place, as they are printed
+abbrev pub fault_text : JobFault → List ℕ
+fault_text f = fault_layer f ++ (codes " " ++ (decimal (job_fault_number f) ++ (codes " " ++ decimal (job_fault_place f))))

@@ -1,14 +1,15 @@
 // The fault of a job, which carries the fault of the layer below whole.
 #![tactic(auto)]
 
-ghost use Rattle.std.specs.Prelude.{◌≡◌};
-ghost use Rattle.faults.specs.Faults.{fault_layer, job_fault_number, job_fault_place};
+ghost use Rattle.std.specs.Prelude.{◌≡◌, Some};
+ghost use Rattle.faults.specs.Faults.{fault_layer, fault_text, job_fault_number, job_fault_place};
 ghost use Rattle.faults.specs.declared.JobFault.TheVariants.{Card, Picture, Bench, Line};
 
 use commands::LineFault;
 use elements::CardFault;
 use limits::Fault;
 use pictures::PictureFault;
+use std::fmt;
 
 /// Why a job refused: the fault of the card, of the picture, of the bench, or of a job line.
 #[derive(Clone, Copy)]
@@ -57,6 +58,19 @@ impl JobFault {
     }
 }
 
+/// Writes the layer, the number and the place, as in `C 12 0`.
+impl fmt::Display for JobFault {
+    ghost output = { λ fault. Some (fault_text fault) };
+
+    fn fmt<W: fmt::Write>(&self, f: &mut fmt::Formatter<W>) -> fmt::Result {
+        let layer = self.layer();
+        let number = self.number();
+        let place = self.place();
+        write!(f, "{layer} {number} {place}")
+    }
+}
+
+// Written out: a derived `From` has no `from_gives`, and the contracts of jobs tell which fault a `?` makes.
 impl From<CardFault> for JobFault {
     ghost from_gives = { λ f j. j ≡ Card f };
 

@@ -5,22 +5,17 @@ use std::io::ErrorKind;
 
 // The bytes of a list such as `00 ff`, of two hexadecimal digits for each.
 fn hexadecimal(heap: Global, list: &str) -> io::Result<Vec<u8>> {
-    let mut bytes = Vec::new(heap);
-    for digits in list.split(' ') {
-        let Ok(byte) = u8::from_str_radix(digits, 16) else {
-            return Err(ErrorKind::InvalidInput.into());
-        };
-        bytes.push(byte)?;
-    }
-    Ok(bytes)
+    list.split(' ')
+        .map(|digits| -> io::Result<u8> {
+            Ok(u8::from_str_radix(digits, 16).map_err(|_| ErrorKind::InvalidInput)?)
+        })
+        .try_collect(heap)
 }
 
 // Adds the bytes of a list, or of a run such as `96*00 ff`, which is the bytes 00 and ff 96 times.
 fn add_run(heap: Global, run: &str, bytes: &mut Vec<u8>) -> io::Result<()> {
     let (times, list) = run.split_once('*').unwrap_or(("1", run));
-    let Ok(times) = times.parse::<u32>() else {
-        return Err(ErrorKind::InvalidInput.into());
-    };
+    let times = times.parse::<u32>().map_err(|_| ErrorKind::InvalidInput)?;
     let once = hexadecimal(heap, list)?;
     for _ in 0..times {
         bytes.extend_from_slice(once.as_slice())?;
@@ -35,12 +30,10 @@ fn add_escaped(heap: Global, piece: &str, bytes: &mut Vec<u8>) -> io::Result<()>
         bytes.extend_from_slice(plain.as_bytes())?;
         return Ok(());
     }
-    let Some(bracket) = piece.strip_prefix('[') else {
-        return Err(ErrorKind::InvalidInput.into());
-    };
-    let Some((run, plain)) = bracket.split_once(']') else {
-        return Err(ErrorKind::InvalidInput.into());
-    };
+    let (run, plain) = piece
+        .strip_prefix('[')
+        .and_then(|rest| rest.split_once(']'))
+        .ok_or(ErrorKind::InvalidInput)?;
     add_run(heap, run, bytes)?;
     bytes.extend_from_slice(plain.as_bytes())?;
     Ok(())
@@ -50,14 +43,12 @@ fn add_escaped(heap: Global, piece: &str, bytes: &mut Vec<u8>) -> io::Result<()>
 /// text itself. Errs where a backslash begins none of these.
 pub(crate) fn unescape(heap: Global, text: &str) -> io::Result<Vec<u8>> {
     let mut bytes = Vec::new(heap);
-    let mut escaped = false;
-    for piece in text.split('\\') {
-        if escaped {
-            add_escaped(heap, piece, &mut bytes)?;
-        } else {
-            bytes.extend_from_slice(piece.as_bytes())?;
-        }
-        escaped = true;
+    let mut pieces = text.split('\\');
+    if let Some(plain) = pieces.next() {
+        bytes.extend_from_slice(plain.as_bytes())?;
+    }
+    for piece in pieces {
+        add_escaped(heap, piece, &mut bytes)?;
     }
     Ok(bytes)
 }

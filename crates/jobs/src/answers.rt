@@ -16,11 +16,6 @@ pub(crate) fn answer_line(
     match answer {
         Ok(None) => String::from_str(heap, "=\n"),
         Ok(Some(number)) => format!(in heap; "= {number}\n"),
-        Err(fault) => {
-            let layer = fault.layer();
-            let number = fault.number();
-            let place = fault.place();
-            format!(in heap; "! {line} {layer} {number} {place}\n")
-        }
+        Err(fault) => format!(in heap; "! {line} {fault}\n"),
     }
 }

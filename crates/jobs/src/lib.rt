@@ -2,8 +2,8 @@
 #![tactic(auto)]
 
 mod answers;
+mod job;
 mod lines;
-mod obey;
 mod prepare;
 mod run;
 mod visits;

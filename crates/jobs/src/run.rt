@@ -1,24 +1,21 @@
 // The run of a job: from the bytes of a card, a picture file and job lines to the printed lines.
-ghost use Rattle.std.specs.Prelude.{◌≡◌, ◌≤◌, ◌++◌, map, IfOk, None, string_bytes, OnOk};
-ghost use Rattle.bench.specs.Model.{rack_outline, slate_outline};
+ghost use Rattle.std.specs.Prelude.{◌≡◌, ◌++◌, map, IfOk, string_bytes, OnOk};
 ghost use Rattle.elements.specs.Elements.{offsets};
 ghost use Rattle.jobs.specs.Answers.{answer_line_lem};
 ghost use Rattle.jobs.specs.Commands.{benches};
 ghost use Rattle.jobs.specs.Lines.{lines_of};
 ghost use Rattle.jobs.specs.Runs.{opened_bench, printed, run_lines_lem};
-ghost use Rattle.jobs.specs.Visits.{Holds};
 ghost use Rattle.levels.specs.Gray.{gray_height};
 
 use crate::answers::answer_line;
-use crate::lines::{after_line, line_end};
-use crate::obey::obey;
+use crate::job::Job;
+use crate::lines::Lines;
 use crate::prepare::{gray_levels, prepare};
-use crate::visits::end_visit;
-use bench::{Rack, Slate};
+use crate::visits::JobBench;
 use elements::Element;
 use faults::JobFault;
 use levels::Gray;
-use pictures::Picture;
+use limits::Sides;
 use std::alloc::{AllocError, Global};
 
 // Adds the printed line of an answer.
@@ -34,61 +31,55 @@ fn print_answer(
     out.push_str(text.as_str())
 }
 
-// Obeys the lines of an input one after another; a visit that is open at the end is ended silently.
-fn run_lines(
-    heap: Global,
-    element: &Element,
-    picture: &[Gray],
-    rack: &mut Rack<'_, '_, Gray>,
-    slate: &mut Slate<'_>,
-    input: &[u8],
-) -> Result<String, AllocError>
-    requires { Holds None (rack_outline rack.old) (slate_outline slate.old) }
-    ensures { IfOk result (λ out. string_bytes out ≡ run_lines_lem (offsets element.now) (map gray_height picture.now) (benches rack.old slate.old) 1 (lines_of input.now)) }
+// Obeys the lines of an input one after another.
+fn run_lines(heap: Global, job: &mut Job<'_, '_, '_>, input: &[u8]) -> Result<String, AllocError>
+    ensures { IfOk result (λ out. string_bytes out ≡ run_lines_lem (offsets job.old.element) (map gray_height job.old.picture.now) (benches job.old.bench.rack job.old.bench.slate) 1 (lines_of input.now)) }
 {
     let mut out = String::new(heap);
-    let mut room: Result<(), AllocError> = Ok(());
-    let mut slip = None;
-    let mut number = 0;
-    let mut at = 0;
-    while at < input.len() && room.is_ok() {
-        let end = line_end(input, at);
-        number += 1;
-        let (held, answer) = obey(&input[at..end], element, picture, rack, slate, slip);
-        slip = held;
-        room = print_answer(heap, number, answer, &mut out);
-        at = after_line(input, end);
+    for (index, line) in Lines(input).enumerate() {
+        let answer = job.obey(line);
+        print_answer(heap, index + 1, answer, &mut out)?;
     }
-    let _ = end_visit(rack, slate, slip);
-    room?;
     Ok(out)
 }
 
-// Runs the lines on a bench of four sheet places and one tally, for a picture of w × h bytes.
+// Runs the lines on a bench of four sheet places and one tally, for a picture of these sides; a visit that
+// is open at the end is ended silently.
 fn run_picture(
     heap: Global,
-    element: &Element,
+    element: Element,
     cells: &[u8],
-    w: usize,
-    h: usize,
+    sides: Sides,
     input: &[u8],
 ) -> Result<String, AllocError>
-    requires sides { (1 ≤ w) × ((w ≤ 96) × ((1 ≤ h) × (h ≤ 96))) }
-    ensures { IfOk result (λ out. string_bytes out ≡ run_lines_lem (offsets element.now) cells.now (opened_bench w h) 1 (lines_of input.now)) }
+    ensures { IfOk result (λ out. string_bytes out ≡ run_lines_lem (offsets element) cells.now (opened_bench sides.w sides.h) 1 (lines_of input.now)) }
 {
     let picture = gray_levels(heap, cells)?;
-    let mut levels = vec![in heap; Gray::new(0); 6 * (w * h)]?;
-    let mut numbers = vec![in heap; 0; w * h]?;
-    let mut rack = Rack::open(levels.as_mut_slice(), w, h, 4);
-    let mut slate = Slate::open(numbers.as_mut_slice(), w, h, 1);
-    run_lines(
-        heap,
+    let mut levels = vec![in heap; Gray::new(0); 6 * sides.cells()]?;
+    let mut numbers = vec![in heap; 0; sides.cells()]?;
+    let bench = JobBench::open(sides, levels.as_mut_slice(), numbers.as_mut_slice());
+    let picture = picture.as_slice();
+    let mut job = Job {
         element,
-        picture.as_slice(),
-        &mut rack,
-        &mut slate,
-        input,
-    )
+        picture,
+        bench,
+    };
+    let printed = run_lines(heap, &mut job, input);
+    // The bench is let go here: the check covers no `drop` and no method that takes it by value.
+    let _ = job.bench.end();
+    let Job {
+        element: _,
+        picture: _,
+        bench: JobBench {
+            rack: _,
+            slate: _,
+            slip: None,
+        },
+    } = job
+    else {
+        unreachable()
+    };
+    printed
 }
 
 /// Runs a job: tells what is printed for the bytes of an element card, of a picture file and of job lines.
@@ -98,14 +89,7 @@ pub fn run_job(heap: Global, card: &[u8], file: &[u8], input: &[u8]) -> Result<S
     ensures { IfOk result (λ out. string_bytes out ≡ printed card.now file.now input.now) }
 {
     match prepare(card, file) {
-        Ok(job) => {
-            let Picture {
-                width,
-                height,
-                start,
-            } = job.picture;
-            run_picture(heap, &job.element, &file[start..], width, height, input)
-        }
+        Ok(job) => run_picture(heap, job.element, &file[job.start..], job.sides, input),
         Err(fault) => answer_line(heap, 0, Err(fault)),
     }
 }

@@ -1,57 +1,79 @@
-// The visits of a job: the slip is kept between the lines.
-ghost use Rattle.std.specs.Prelude.{◌≡◌, None};
-ghost use Rattle.bench.specs.Calls.{begin_refusal, end_refusal, ended, visited};
-ghost use Rattle.limits.specs.Faults.{unless};
-ghost use Rattle.bench.specs.Model.{rack_outline, rack_state, slate_outline, slate_state};
-ghost use Rattle.jobs.specs.Commands.{answered};
-ghost use Rattle.jobs.specs.Visits.{Holds};
-ghost use Rattle.levels.specs.Gray.{gray_height};
+// The bench of a job, and the visits on it.
+ghost use Rattle.std.specs.Prelude.{◌≡◌, ◌*◌, length, None};
 ghost use Rattle.std.specs.Option.{unwrap_or};
+ghost use Rattle.std.proofs.Props.{props};
+ghost use Rattle.bench.specs.Calls.{begin_refusal, end_refusal, ended, visited};
+ghost use Rattle.bench.specs.Model.{rack_outline, rack_state, slate_outline, slate_state};
+ghost use Rattle.jobs.specs.Commands.{benches};
+ghost use Rattle.jobs.specs.Runs.{opened_bench};
+ghost use Rattle.jobs.specs.Visits.{slip_flat};
+ghost use Rattle.levels.specs.Gray.{gray_height};
+ghost use Rattle.limits.specs.Faults.{told, unless};
 
 use bench::{Rack, Slate, Slip, begin, end};
-use faults::JobFault;
 use levels::Gray;
-use limits::Fault;
+use limits::{Fault, Sides};
 
-// Begins a visit, and keeps its slip; with a slip at hand begin is refused.
-pub(crate) fn begin_visit(
-    flat: u16,
-    rack: &mut Rack<'_, '_, Gray>,
-    slate: &mut Slate<'_>,
-    slip: Option<Slip>,
-) -> (Option<Slip>, Result<Option<u64>, JobFault>)
-    requires { Holds slip (rack_outline rack.old) (slate_outline slate.old) }
-    ensures answers { result.1 ≡ answered (begin_refusal (rack_outline rack.old) (slate_outline slate.old) flat) None }
-    ensures rack_steps { rack_state gray_height rack.new ≡ unless (begin_refusal (rack_outline rack.old) (slate_outline slate.old) flat) (visited (rack_state gray_height rack.old) flat) (rack_state gray_height rack.old) }
-    ensures slate_steps { slate_state slate.new ≡ unless (begin_refusal (rack_outline rack.old) (slate_outline slate.old) flat) (visited (slate_state slate.old) flat) (slate_state slate.old) }
-    ensures holds { Holds result.0 (rack_outline rack.new) (slate_outline slate.new) }
-{
-    match begin(flat, rack, slate) {
-        Ok(new) => match slip {
-            None => (Some(new), Ok(None)),
-            Some(_) => unreachable(),
-        },
-        Err(fault) => (slip, Err(JobFault::Bench(fault))),
+// The rack and the slate of a job, and the slip of the visit that is open on them.
+pub(crate) struct JobBench<'a, 'b> {
+    pub(crate) rack: Rack<'a, 'a, Gray>,
+    pub(crate) slate: Slate<'b>,
+    pub(crate) slip: Option<Slip>,
+    ghost on_rack: { (rack_outline rack).visit ≡ slip_flat slip } by { Prim.hlevel props },
+    ghost on_slate: { (slate_outline slate).visit ≡ slip_flat slip } by { Prim.hlevel props },
+    ghost same_width: { (rack_outline rack).w ≡ (slate_outline slate).w },
+    ghost same_height: { (rack_outline rack).h ≡ (slate_outline slate).h },
+}
+
+impl<'a, 'b> JobBench<'a, 'b> {
+    // A bench of four sheet places and one tally, of these sides, in that memory.
+    pub(crate) fn open(
+        sides: Sides,
+        levels: &'a mut [Gray],
+        numbers: &'b mut [i32],
+    ) -> JobBench<'a, 'b>
+        requires levels { length levels.old ≡ 6 * (sides.w * sides.h) }
+        requires numbers { length numbers.old ≡ sides.w * sides.h }
+        ensures { benches result.rack result.slate ≡ opened_bench sides.w sides.h }
+    {
+        let Sides { w, h } = sides;
+        let rack = Rack::open(levels, w, h, 4);
+        let slate = Slate::open(numbers, w, h, 1);
+        JobBench {
+            rack,
+            slate,
+            slip: None,
+        }
     }
 }
 
-// Ends the visit with the slip at hand; without one there is no visit.
-pub(crate) fn end_visit(
-    rack: &mut Rack<'_, '_, Gray>,
-    slate: &mut Slate<'_>,
-    slip: Option<Slip>,
-) -> Result<Option<u64>, JobFault>
-    requires { Holds slip (rack_outline rack.old) (slate_outline slate.old) }
-    ensures answers { result ≡ answered (end_refusal (rack_outline rack.old) (slate_outline slate.old) (unwrap_or (rack_outline rack.old).visit 0)) None }
-    ensures rack_steps { rack_state gray_height rack.new ≡ unless (end_refusal (rack_outline rack.old) (slate_outline slate.old) (unwrap_or (rack_outline rack.old).visit 0)) (ended (rack_state gray_height rack.old)) (rack_state gray_height rack.old) }
-    ensures slate_steps { slate_state slate.new ≡ unless (end_refusal (rack_outline rack.old) (slate_outline slate.old) (unwrap_or (rack_outline rack.old).visit 0)) (ended (slate_state slate.old)) (slate_state slate.old) }
-    ensures holds { Holds None (rack_outline rack.new) (slate_outline slate.new) }
-{
-    let Some(held) = slip else {
-        return Err(JobFault::Bench(Fault::NoVisit));
-    };
-    match end(held, rack, slate) {
-        Ok(()) => Ok(None),
-        Err(_) => unreachable(),
+impl JobBench<'_, '_> {
+    // Begins a visit, and keeps its slip; with a slip at hand begin is refused.
+    pub(crate) fn begin(&mut self, flat: u16) -> Result<(), Fault>
+        ensures answers { result ≡ told (begin_refusal (rack_outline self.old.rack) (slate_outline self.old.slate) flat) }
+        ensures rack_steps { rack_state gray_height self.new.rack ≡ unless (begin_refusal (rack_outline self.old.rack) (slate_outline self.old.slate) flat) (visited (rack_state gray_height self.old.rack) flat) (rack_state gray_height self.old.rack) }
+        ensures slate_steps { slate_state self.new.slate ≡ unless (begin_refusal (rack_outline self.old.rack) (slate_outline self.old.slate) flat) (visited (slate_state self.old.slate) flat) (slate_state self.old.slate) }
+    {
+        let slip = begin(flat, &mut self.rack, &mut self.slate)?;
+        match self.slip.replace(slip) {
+            None => Ok(()),
+            Some(_) => unreachable(),
+        }
+    }
+
+    // Ends the visit with the slip at hand; without one there is no visit.
+    pub(crate) fn end(&mut self) -> Result<(), Fault>
+        ensures answers { result ≡ told (end_refusal (rack_outline self.old.rack) (slate_outline self.old.slate) (unwrap_or (rack_outline self.old.rack).visit 0)) }
+        ensures rack_steps { rack_state gray_height self.new.rack ≡ unless (end_refusal (rack_outline self.old.rack) (slate_outline self.old.slate) (unwrap_or (rack_outline self.old.rack).visit 0)) (ended (rack_state gray_height self.old.rack)) (rack_state gray_height self.old.rack) }
+        ensures slate_steps { slate_state self.new.slate ≡ unless (end_refusal (rack_outline self.old.rack) (slate_outline self.old.slate) (unwrap_or (rack_outline self.old.rack).visit 0)) (ended (slate_state self.old.slate)) (slate_state self.old.slate) }
+        ensures spent { self.new.slip ≡ None }
+    {
+        let Some(slip) = self.slip.take() else {
+            return Err(Fault::NoVisit);
+        };
+        match end(slip, &mut self.rack, &mut self.slate) {
+            Ok(()) => Ok(()),
+            Err(_) => unreachable(),
+        }
     }
 }

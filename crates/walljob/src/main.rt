@@ -21,12 +21,8 @@ fn read_some<R: Read + Drop>(heap: Global, source: R) -> io::Result<Vec<u8>> {
 fn read_file(rt: &HostRuntime, path: &str) -> io::Result<Vec<u8>> {
     match File::open(rt, path) {
         Ok(file) => read_some(rt.alloc(), file),
-        Err(error) => {
-            if error.kind() == ErrorKind::NotFound {
-                return Ok(Vec::new(rt.alloc()));
-            }
-            Err(error)
-        }
+        Err(error) if error.kind() == ErrorKind::NotFound => Ok(Vec::new(rt.alloc())),
+        Err(error) => Err(error),
     }
 }
 

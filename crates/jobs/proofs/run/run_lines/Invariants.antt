@@ -1,20 +1,22 @@
-use Rattle.std.proofs.Common.{◌≡◌, ◌+◌, ◌-◌, ◌≤◌, true, ◌++◌, map, length, drop, is_ok, string_bytes}
+use Rattle.std.proofs.Common.{◌≡◌, ◌+◌, ◌++◌, map, length, string_bytes}
+use Rattle.std.specs.Iterator.Adapters.{enumerate_source, enumerate_count}
 use Rattle.elements.specs.Elements.{offsets}
 use Rattle.levels.specs.Gray.{gray_height}
-use Rattle.bench.specs.Model.{rack_outline, slate_outline}
 use Rattle.jobs.specs.Commands.{benches}
 use Rattle.jobs.specs.Lines.{lines_of}
 use Rattle.jobs.specs.Runs.{run_lines_lem}
-use Rattle.jobs.specs.Visits.{Holds}
 use Rattle.jobs.proofs.run.run_lines.Given as goal
 
 -- What is printed and what is still to come is what the whole input prints.
-abbrev pub invariant-loop-at : goal.invariant-loop-at
-invariant-loop-at l =
-    (l.number ≤ l.at) × (l.at ≤ length l.input) × Holds l.slip (rack_outline l.rack) (slate_outline l.slate)
-    × (is_ok l.room ≡ true →
-    string_bytes l.out ++ run_lines_lem (offsets l.element) (map gray_height l.picture) (benches l.rack l.slate) (l.number + 1) (lines_of (drop l.at l.input))
-    ≡ run_lines_lem (offsets l.element) (map gray_height l.picture) (benches l.initial.rack l.initial.slate) 1 (lines_of l.input))
-
-abbrev pub decreases-loop-at : goal.decreases-loop-at
-decreases-loop-at l = length l.input - l.at
+abbrev pub invariant-loop-index : goal.invariant-loop-index
+invariant-loop-index l =
+    let k = enumerate_count l.index-iterator in
+    let lines = lines_of (enumerate_source l.index-iterator).0.now in
+    record {
+      numbered : k + length lines ≡ length (lines_of l.input);
+      element : l.job.element ≡ l.initial.job.element;
+      picture : l.job.picture.now ≡ l.initial.job.picture.now;
+      printed :
+          string_bytes l.out ++ run_lines_lem (offsets l.initial.job.element) (map gray_height l.initial.job.picture.now) (benches l.job.bench.rack l.job.bench.slate) (k + 1) lines
+          ≡ run_lines_lem (offsets l.initial.job.element) (map gray_height l.initial.job.picture.now) (benches l.initial.job.bench.rack l.initial.job.bench.slate) 1 (lines_of l.input);
+    }

@@ -1,0 +1,113 @@
+// The calls of a level kind, and what they leave in the memory.
+use crate::call::{Call, Sequence};
+use crate::reply::Reply;
+use crate::visits::Bench;
+use calls::{cut, show_sheet, show_tally, span};
+use elements::Element;
+use levels::Mask;
+use levels::level::Level;
+use std::alloc::{AllocError, Global};
+use std::io;
+
+/// A level kind, by its title, with a picture to load and an element to erode and dilate by.
+#[derive(Clone, Copy)]
+pub struct Kind<'a, L> {
+    pub title: &'static str,
+    pub picture: &'a [L],
+    pub element: Element,
+}
+
+// Prints the sum of the heights in a memory and the sum of its numbers, which are not below 0.
+fn print_memory<L: Level>(rt: &HostRuntime, levels: &[L], numbers: &[i32]) -> io::Result<()> {
+    let heights = levels.iter().fold(
+        0_u64,
+        |sum, level| sum.saturating_add(u64::from(level.height())),
+    );
+    let sum = numbers
+        .iter()
+        .fold(0_i32, |sum, number| sum.saturating_add(*number));
+    println!(rt; "memory {heights} {sum}")
+}
+
+impl<L: Level> Kind<'_, L> {
+    // The first levels of the picture, or all.
+    fn first(&self, len: usize) -> &[L] {
+        &self.picture[..len.min(self.picture.len())]
+    }
+
+    // Makes a call.
+    fn make(
+        &self,
+        heap: Global,
+        bench: &mut Bench<'_, L>,
+        call: Call,
+    ) -> Result<Reply<L>, AllocError> {
+        let answer = match call {
+            Call::Begin(flat) => bench.begin(flat).into(),
+            Call::Load { place, len } => bench.load(place, self.first(len)).into(),
+            Call::Erode { from, to } => bench.erode(&self.element, from, to).into(),
+            Call::Dilate { from, to } => bench.dilate(&self.element, from, to).into(),
+            Call::Meet { one, other, to } => bench.meet(one, other, to).into(),
+            Call::Join { one, other, to } => bench.join(one, other, to).into(),
+            Call::End => bench.end().into(),
+            Call::Area(place) => bench.rack.area(place).into(),
+            Call::Span(place) => return Ok(Reply::Span(span(&bench.rack, place))),
+            Call::Show { place, len } => {
+                let mut list = vec![in heap; L::highest(); len]?;
+                let answer = show_sheet(&bench.rack, place, list.as_mut_slice());
+                return Ok(Reply::Sheet(answer.into(), list));
+            }
+            Call::ShowTally { place, len } => {
+                let mut list = vec![in heap; 7; len]?;
+                let answer = show_tally(&bench.slate, place, list.as_mut_slice());
+                return Ok(Reply::Tally(answer, list));
+            }
+            Call::Cut { place, height, len } => {
+                let mut list = vec![in heap; Mask::Yes; len]?;
+                let answer = cut(&bench.rack, place, height, list.as_mut_slice());
+                return Ok(Reply::Mask(answer.into(), list));
+            }
+        };
+        Ok(Reply::Told(answer))
+    }
+
+    // Makes calls one after another and prints their answers.
+    fn make_all(
+        &self,
+        rt: &HostRuntime,
+        bench: &mut Bench<'_, L>,
+        calls: &[Call],
+    ) -> io::Result<()> {
+        for call in calls {
+            let reply = self.make(rt.alloc(), bench, *call)?;
+            println!(rt; "{reply}")?;
+        }
+        Ok(())
+    }
+
+    /// Prints the titles of the kind and of a sequence of calls, makes the calls on a rack in memory of highest levels and a
+    /// slate in memory of numbers 7, printing their answers, and prints the sums of the memory after them. A visit that is
+    /// open at the end is ended silently.
+    pub fn make_calls(&self, rt: &HostRuntime, sequence: &Sequence<'_>) -> io::Result<()> {
+        let Kind { title: kind, .. } = *self;
+        let Sequence {
+            title,
+            calls,
+            rack,
+            slate,
+        } = *sequence;
+        println!(rt; "# {kind}: {title}")?;
+        let mut levels = vec![in rt.alloc(); L::highest(); rack.len]?;
+        let mut numbers = vec![in rt.alloc(); 7; slate.len]?;
+        let mut bench = Bench::open(levels.as_mut_slice(), rack, numbers.as_mut_slice(), slate);
+        let printed = self.make_all(rt, &mut bench, calls);
+        let _ = bench.end();
+        let Bench {
+            rack: _,
+            slate: _,
+            slip: _,
+        } = bench;
+        printed?;
+        print_memory(rt, levels.as_slice(), numbers.as_slice())
+    }
+}

@@ -1,4 +1,6 @@
 // The calls of a level kind, and what they leave in the memory.
+ghost use Rattle.std.specs.Prelude.{◌≡◌, take};
+
 use crate::call::{Call, Sequence};
 use crate::reply::Reply;
 use crate::visits::Bench;
@@ -30,8 +32,10 @@ fn print_memory<L: Level>(rt: &HostRuntime, levels: &[L], numbers: &[i32]) -> io
 }
 
 impl<L: Level> Kind<'_, L> {
-    // The first levels of the picture, or all.
-    fn first(&self, len: usize) -> &[L] {
+    /// The first levels of the picture, or all.
+    pub fn first(&self, len: usize) -> &[L]
+        ensures { result.now ≡ take len self.now.picture.now }
+    {
         &self.picture[..len.min(self.picture.len())]
     }
 

@@ -242,25 +242,13 @@ const ENDS: [Sequence<'static>; 3] = [
     },
 ];
 
-// Prints the answers to each sequence, and the sums of the memory after it.
-fn make_each<L: Level>(
-    rt: &HostRuntime,
-    kind: &Kind<'_, L>,
-    sequences: &[Sequence<'_>],
-) -> io::Result<()> {
-    for sequence in sequences {
-        kind.make_calls(rt, sequence)?;
-    }
-    Ok(())
-}
-
 // Makes all the sequences, those on larger sheets with a picture of highest levels.
 pub(crate) fn make_sequences<L: Level>(rt: &HostRuntime, kind: &Kind<'_, L>) -> io::Result<()> {
-    make_each(rt, kind, &ROWS)?;
+    kind.make_sequences(rt, &ROWS)?;
     let highest = vec![in rt.alloc(); L::highest(); 1_024]?;
-    let kind = Kind {
+    let highest = Kind {
         picture: highest.as_slice(),
         ..*kind
     };
-    make_each(rt, &kind, &ENDS)
+    highest.make_sequences(rt, &ENDS)
 }

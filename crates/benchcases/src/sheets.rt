@@ -1,6 +1,4 @@
 // Erosion and dilation as calls on lists of levels.
-ghost use Rattle.std.specs.Prelude.{◌≡◌};
-
 use cases::{Answer, Heights, Kind};
 use levels::level::Level;
 use limits::Fault;

@@ -13,10 +13,7 @@ struct CallCases;
 
 impl Cases for CallCases {
     fn run<L: Level>(&self, rt: &HostRuntime, kind: &Kind<'_, L>) -> io::Result<()> {
-        for sequence in SEQUENCES {
-            kind.make_calls(rt, &sequence)?;
-        }
-        Ok(())
+        kind.make_sequences(rt, &SEQUENCES)
     }
 }
 

@@ -4,7 +4,7 @@ ghost use Rattle.std.specs.Prelude.{◌≡◌, take};
 use crate::call::{Call, Sequence};
 use crate::reply::Reply;
 use crate::visits::Bench;
-use calls::{cut, show_sheet, show_tally, span};
+use calls::{cut, join, meet, show_sheet, show_tally, span};
 use elements::Element;
 use levels::Mask;
 use levels::level::Level;
@@ -31,7 +31,15 @@ fn print_memory<L: Level>(rt: &HostRuntime, levels: &[L], numbers: &[i32]) -> io
     println!(rt; "memory {heights} {sum}")
 }
 
-impl<L: Level> Kind<'_, L> {
+impl<'a, L: Level> Kind<'a, L> {
+    pub(crate) fn new(title: &'static str, picture: &'a [L], element: Element) -> Kind<'a, L> {
+        Kind {
+            title,
+            picture,
+            element,
+        }
+    }
+
     /// The first levels of the picture, or all.
     pub fn first(&self, len: usize) -> &[L]
         ensures { result.now ≡ take len self.now.picture.now }
@@ -48,11 +56,11 @@ impl<L: Level> Kind<'_, L> {
     ) -> Result<Reply<L>, AllocError> {
         let answer = match call {
             Call::Begin(flat) => bench.begin(flat).into(),
-            Call::Load { place, len } => bench.load(place, self.first(len)).into(),
-            Call::Erode { from, to } => bench.erode(&self.element, from, to).into(),
-            Call::Dilate { from, to } => bench.dilate(&self.element, from, to).into(),
-            Call::Meet { one, other, to } => bench.meet(one, other, to).into(),
-            Call::Join { one, other, to } => bench.join(one, other, to).into(),
+            Call::Load { place, len } => bench.rack.load(place, self.first(len)).into(),
+            Call::Erode { from, to } => bench.rack.erode(&self.element, from, to).into(),
+            Call::Dilate { from, to } => bench.rack.dilate(&self.element, from, to).into(),
+            Call::Meet { one, other, to } => meet(&mut bench.rack, one, other, to).into(),
+            Call::Join { one, other, to } => join(&mut bench.rack, one, other, to).into(),
             Call::End => bench.end().into(),
             Call::Area(place) => bench.rack.area(place).into(),
             Call::Span(place) => return Ok(Reply::Span(span(&bench.rack, place))),
@@ -89,22 +97,18 @@ impl<L: Level> Kind<'_, L> {
         Ok(())
     }
 
-    /// Prints the titles of the kind and of a sequence of calls, makes the calls on a rack in memory of highest levels and a
-    /// slate in memory of numbers 7, printing their answers, and prints the sums of the memory after them. A visit that is
-    /// open at the end is ended silently.
-    pub fn make_calls(&self, rt: &HostRuntime, sequence: &Sequence<'_>) -> io::Result<()> {
-        let Kind { title: kind, .. } = *self;
-        let Sequence {
-            title,
-            calls,
-            rack,
-            slate,
-        } = *sequence;
-        println!(rt; "# {kind}: {title}")?;
-        let mut levels = vec![in rt.alloc(); L::highest(); rack.len]?;
-        let mut numbers = vec![in rt.alloc(); 7; slate.len]?;
-        let mut bench = Bench::open(levels.as_mut_slice(), rack, numbers.as_mut_slice(), slate);
-        let printed = self.make_all(rt, &mut bench, calls);
+    // Makes a sequence of calls, as `make_sequences` says.
+    fn make_calls(&self, rt: &HostRuntime, sequence: Sequence<'_>) -> io::Result<()> {
+        println!(rt; "# {}: {}", self.title, sequence.title)?;
+        let mut levels = vec![in rt.alloc(); L::highest(); sequence.rack.len]?;
+        let mut numbers = vec![in rt.alloc(); 7; sequence.slate.len]?;
+        let mut bench = Bench::open(
+            levels.as_mut_slice(),
+            sequence.rack,
+            numbers.as_mut_slice(),
+            sequence.slate,
+        );
+        let printed = self.make_all(rt, &mut bench, sequence.calls);
         let _ = bench.end();
         let Bench {
             rack: _,
@@ -113,5 +117,15 @@ impl<L: Level> Kind<'_, L> {
         } = bench;
         printed?;
         print_memory(rt, levels.as_slice(), numbers.as_slice())
+    }
+
+    /// Makes sequences of calls, each on a rack in memory of highest levels and a slate in memory of numbers 7. Prints the titles
+    /// of the kind and of the sequence, the answer of each call, and the sums of the memory after them. A visit that is open at
+    /// the end is ended silently.
+    pub fn make_sequences(&self, rt: &HostRuntime, sequences: &[Sequence<'_>]) -> io::Result<()> {
+        for sequence in sequences {
+            self.make_calls(rt, *sequence)?;
+        }
+        Ok(())
     }
 }

@@ -22,34 +22,26 @@ pub fn run_at_every_kind<C: Cases>(rt: &HostRuntime, cases: &C) -> io::Result<()
     let [blank, cold, warm] = [Heat::blank(), Heat::of_count(-32_768), Heat::of_count(320)];
     cases.run(
         rt,
-        &Kind {
-            title: "mask, cut at 1",
-            picture: &[no, yes, yes, yes, no, yes],
-            element,
-        },
+        &Kind::new("mask, cut at 1", &[no, yes, yes, yes, no, yes], element),
     )?;
     cases.run(
         rt,
-        &Kind {
-            title: "mask, cut at 2",
-            picture: &[no, yes, no, yes, no, yes],
-            element,
-        },
+        &Kind::new("mask, cut at 2", &[no, yes, no, yes, no, yes], element),
     )?;
     cases.run(
         rt,
-        &Kind {
-            title: "gray",
-            picture: &[none, two, one, two, none, Gray::new(255)],
+        &Kind::new(
+            "gray",
+            &[none, two, one, two, none, Gray::new(255)],
             element,
-        },
+        ),
     )?;
     cases.run(
         rt,
-        &Kind {
-            title: "heat",
-            picture: &[blank, warm, cold, warm, blank, Heat::of_count(32_767)],
+        &Kind::new(
+            "heat",
+            &[blank, warm, cold, warm, blank, Heat::of_count(32_767)],
             element,
-        },
+        ),
     )
 }

@@ -1,4 +1,7 @@
 // What the calls answer, with what they left in their lists.
+ghost use Rattle.std.specs.Prelude.{Some};
+ghost use Rattle.cases.specs.Texts.{numbers_text, reply_text, spot_text};
+
 use crate::answer::{Answer, Heights};
 use calls::Spot;
 use levels::Mask;
@@ -21,23 +24,12 @@ pub(crate) enum Reply<L> {
 struct Place<'a, L>(&'a Spot<L>);
 
 impl<L: Level> fmt::Display for Place<'_, L> {
+    ghost output = { λ place. Some (spot_text L.height place.0.now) };
+
     fn fmt<W: fmt::Write>(&self, f: &mut fmt::Formatter<W>) -> fmt::Result {
         let Spot { column, row, level } = *self.0;
         let height = level.height();
         write!(f, " {column} {row} {height}")
-    }
-}
-
-// The answer that tells a tally's weight.
-#[derive(Clone, Copy)]
-struct Weight(Result<u16, Fault>);
-
-impl fmt::Display for Weight {
-    fn fmt<W: fmt::Write>(&self, f: &mut fmt::Formatter<W>) -> fmt::Result {
-        match self.0 {
-            Ok(weight) => write!(f, "= {weight}:"),
-            Err(fault) => Answer(Err(fault)).fmt(f),
-        }
     }
 }
 
@@ -46,6 +38,8 @@ impl fmt::Display for Weight {
 struct Numbers<'a>(&'a [i32]);
 
 impl fmt::Display for Numbers<'_> {
+    ghost output = { λ numbers. Some (numbers_text numbers.0.now) };
+
     fn fmt<W: fmt::Write>(&self, f: &mut fmt::Formatter<W>) -> fmt::Result {
         for number in self.0 {
             write!(f, " {number}")?;
@@ -55,6 +49,8 @@ impl fmt::Display for Numbers<'_> {
 }
 
 impl<L: Level> fmt::Display for Reply<L> {
+    ghost output = { λ reply. Some (reply_text L.height reply) };
+
     fn fmt<W: fmt::Write>(&self, f: &mut fmt::Formatter<W>) -> fmt::Result {
         match self {
             Reply::Told(answer) => write!(f, "{answer}"),
@@ -64,10 +60,13 @@ impl<L: Level> fmt::Display for Reply<L> {
             Reply::Span(Err(fault)) => write!(f, "{}", Answer(Err(*fault))),
             Reply::Sheet(answer, list) => write!(f, "{answer}{}", Heights(list.as_slice())),
             Reply::Mask(answer, list) => write!(f, "{answer}{}", Heights(list.as_slice())),
-            Reply::Tally(answer, list) => write!(
+            Reply::Tally(Ok(weight), list) => {
+                write!(f, "= {weight}:{}", Numbers(list.as_slice()))
+            }
+            Reply::Tally(Err(fault), list) => write!(
                 f,
                 "{}{}",
-                Weight(*answer),
+                Answer(Err(*fault)),
                 Numbers(list.as_slice())
             ),
         }

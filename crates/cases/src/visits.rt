@@ -5,12 +5,11 @@ ghost use Rattle.cases.specs.Visits.{Holds};
 
 use crate::call::Sizes;
 use bench::{Rack, Slate, Slip, begin, end};
-use calls::{join, meet};
-use elements::Element;
 use levels::level::Level;
 use limits::Fault;
 
-// A rack and its slate, and the slip of the visit that is open on them.
+// A rack and its slate, and the slip of the visit that is open on them. It is not `Drop`: who takes it apart has first to end
+// that visit.
 pub(crate) struct Bench<'a, L: Level> {
     pub(crate) rack: Rack<'a, 'a, L>,
     pub(crate) slate: Slate<'a>,
@@ -56,30 +55,5 @@ impl<'a, L: Level> Bench<'a, L> {
             Ok(()) => Ok(()),
             Err(_) => unreachable!(),
         }
-    }
-
-    pub(crate) fn load(&mut self, place: usize, picture: &[L]) -> Result<(), Fault> {
-        self.rack.load(place, picture)
-    }
-
-    pub(crate) fn erode(&mut self, element: &Element, from: usize, to: usize) -> Result<(), Fault> {
-        self.rack.erode(element, from, to)
-    }
-
-    pub(crate) fn dilate(
-        &mut self,
-        element: &Element,
-        from: usize,
-        to: usize,
-    ) -> Result<(), Fault> {
-        self.rack.dilate(element, from, to)
-    }
-
-    pub(crate) fn meet(&mut self, one: usize, other: usize, to: usize) -> Result<(), Fault> {
-        meet(&mut self.rack, one, other, to)
-    }
-
-    pub(crate) fn join(&mut self, one: usize, other: usize, to: usize) -> Result<(), Fault> {
-        join(&mut self.rack, one, other, to)
     }
 }

@@ -1,5 +1,4 @@
 pub mod Refusals
-pub mod Held
 pub mod Memory
 pub mod Opened
 pub mod Stored

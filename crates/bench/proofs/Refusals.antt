@@ -1,11 +1,12 @@
 -- What a call leaves where it is refused and where it is not. Assumes nothing.
-use Rattle.std.proofs.Common.{◌≡◌, ℕ, ◌*◌, Bool, true, false, is_some, Some, None, Ok, Err, Option, refl, arith}
+use Rattle.std.proofs.Common.{◌≡◌, ℕ, ◌*◌, Bool, true, false, is_some, Some, None, Ok, Err, Option, sym, refl, ap, arith}
+use Rattle.std.proofs.Math.Bool.{and_self}
 use Rattle.std.proofs.lemmas.Bool.{not-false, eqb-true, and_parts}
 use Rattle.limits.specs.declared.fault.Fault.{Fault}
 use Rattle.limits.specs.Faults.{first}
 use Rattle.bench.specs.Model.{Outline, is_place}
 use Rattle.bench.specs.Calls.{load_refusal, make_refusal, source_refusal, transform_refusal}
-use Rattle.limits.specs.Faults.{tells, told, unless}
+use Rattle.limits.specs.Faults.{told, unless}
 
 pub refused_leaves : {S : Type 0} (o : Option Fault) (e : Fault) (new old : S) → Err e ≡ told o → old ≡ unless o new old
 refused_leaves None e new old h = absurd (let z : ◌≡◌ {A = ℕ} 0 1 = cc in omega arith)
@@ -14,24 +15,6 @@ refused_leaves (Some f) e new old h = refl
 pub accepted_leaves : {S : Type 0} (o : Option Fault) (new old : S) → Ok tt ≡ told o → new ≡ unless o new old
 accepted_leaves None new old h = refl
 accepted_leaves (Some f) new old h = absurd (let z : ◌≡◌ {A = ℕ} 0 1 = cc in omega arith)
-
--- which it was
-pub refused_by : (o : Option Fault) (e : Fault) → Err e ≡ told o → o ≡ Some e
-refused_by None e h = absurd (let z : ◌≡◌ {A = ℕ} 0 1 = cc in omega arith)
-refused_by (Some f) e h = cc
-
-pub refused_by_none : (o : Option Fault) → Ok tt ≡ told o → o ≡ None
-refused_by_none None h = refl
-refused_by_none (Some f) h = absurd (let z : ◌≡◌ {A = ℕ} 0 1 = cc in omega arith)
-
--- and what a call tells
-pub refused_tells : {X : Type 0} (o : Option Fault) (e : Fault) (x : X) → Err e ≡ told o → Err e ≡ tells o x
-refused_tells None e x h = absurd (let z : ◌≡◌ {A = ℕ} 0 1 = cc in omega arith)
-refused_tells (Some f) e x h = cc
-
-pub accepted_tells : {X : Type 0} (o : Option Fault) (x : X) → Ok tt ≡ told o → Ok x ≡ tells o x
-accepted_tells None x h = refl
-accepted_tells (Some f) x h = absurd (let z : ◌≡◌ {A = ℕ} 0 1 = cc in omega arith)
 
 -- a table that refuses nothing has passed its first test
 passed_first : (test : Bool) (fault : Fault) (rest : Option Fault) → Ok tt ≡ told (first test fault rest) → (test ≡ false) × (Ok tt ≡ told rest)
@@ -46,17 +29,9 @@ load_accepted o k len h =
     let three = passed_first _ _ _ two.1 in
     (eqb-true _ _ (not-false _ one.0), not-false _ two.0, not-false _ three.0)
 
-pub transform_accepted : (o : Outline) (from to : ℕ) → Ok tt ≡ told (transform_refusal o from to) → (is_place o.places from ≡ true) × (is_place o.places to ≡ true) × (is_some o.visit ≡ true) × (o.filled from ≡ true)
-transform_accepted o from to h =
-    let one = passed_first _ _ _ h in
-    let two = passed_first _ _ _ one.1 in
-    let three = passed_first _ _ _ two.1 in
-    let both = and_parts _ _ (not-false _ one.0) in
-    (both.0, both.1, not-false _ two.0, not-false _ three.0)
-
-pub source_accepted : (no_place empty : Fault) (o : Outline) (k : ℕ) → Ok tt ≡ told (source_refusal no_place empty o k) → (is_place o.places k ≡ true) × (o.filled k ≡ true)
+pub source_accepted : (no_place empty : Fault) (o : Outline) (k : ℕ) → source_refusal no_place empty o k ≡ None → (is_place o.places k ≡ true) × (o.filled k ≡ true)
 source_accepted no_place empty o k h =
-    let one = passed_first _ _ _ h in
+    let one = passed_first _ _ _ (sym (ap told h)) in
     let two = passed_first _ _ _ one.1 in
     let three = passed_first _ _ _ two.1 in
     (not-false _ one.0, not-false _ three.0)
@@ -85,3 +60,7 @@ make_accepted o one other to h =
       one_filled = filled.0;
       other_filled = filled.1;
     }
+
+-- a sheet made of the one in a place alone is refused as a call from that place is
+pub make_refuses_as_transform : (o : Outline) (from to : ℕ) → make_refusal o from from to ≡ transform_refusal o from to
+make_refuses_as_transform o from to = rw (and_self (is_place o.places from), and_self (o.filled from)) refl

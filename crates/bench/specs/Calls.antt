@@ -59,10 +59,20 @@ operate_leaves op s offsets from to =
     (stored s to (operated op s.outline.w s.outline.h offsets (s.content from))) s
 
 -- and the heights in memory after it
-abbrev pub operate_writes : Operation → Marks → List (ℤ × ℤ) → ℕ → ℕ → List ℕ → List ℕ
+abbrev pub operate_writes : {T : Type 0} → Operation → Marks T → List (ℤ × ℤ) → ℕ → ℕ → List ℕ → List ℕ
 operate_writes op m offsets from to heights =
     let cells = m.w * m.h in
     overwritten (place_start cells to) (operated op m.w m.h offsets (cells_of cells from heights)) heights
+
+-- A call fills a place with what an operation makes of the sheet in another so: it tells its refusal or nothing, leaves the state by
+-- its definition, and of the memory changes just the target's cells; the working planes are free, but a refusal leaves them too.
+pub record OperatesOnSheet {L : Type 0} (height : L → ℕ) (op : Operation) (offsets : List (ℤ × ℤ)) (was is : Rack L) (from to : ℕ) (answer : Result (Unit {0}) Fault) : Type 0 where
+  pub answers : answer ≡ told (transform_refusal (rack_outline was) from to)
+  pub steps : rack_state height is ≡ operate_leaves op (rack_state height was) offsets from to
+  pub memory : MatchResult answer
+      (λ _. map height is.sheets.now ≡ operate_writes op was.marks offsets from to (map height was.sheets.now))
+      (λ _. is.sheets.now ≡ was.sheets.now)
+  pub planes : OnErr answer (is.planes.now ≡ was.planes.now)
 
 -- area: the sum of the heights, refused as a call from that place to itself would be
 abbrev pub area_answer : State ℕ → ℕ → Result ℕ Fault
@@ -93,7 +103,7 @@ abbrev pub make_leaves : (ℕ → ℕ → List ℕ → List ℕ → List ℕ) �
 make_leaves made s one other to =
     unless (make_refusal s.outline one other to) (stored s to (made s.outline.w s.outline.h (s.content one) (s.content other))) s
 
-abbrev pub make_writes : (ℕ → ℕ → List ℕ → List ℕ → List ℕ) → Marks → ℕ → ℕ → ℕ → List ℕ → List ℕ
+abbrev pub make_writes : {T : Type 0} → (ℕ → ℕ → List ℕ → List ℕ → List ℕ) → Marks T → ℕ → ℕ → ℕ → List ℕ → List ℕ
 make_writes made m one other to heights =
     overwritten (place_start (m.w * m.h) to) (made m.w m.h (sheet_in m heights one) (sheet_in m heights other)) heights
 

@@ -1,7 +1,7 @@
--- Flags that say which places are filled. Assumes nothing.
-use Rattle.std.specs.Prelude.{Bool, true, not, ◌&&◌, List, [], ◌∷◌}
+-- What places are filled with. Assumes nothing.
+use Rattle.std.specs.Prelude.{Bool, true, not, ◌&&◌, List, [], ◌∷◌, is_some, Option}
 
--- no flag is set
-abbrev pub none : List Bool → Bool
+-- no place is filled
+abbrev pub none : {X : Type 0} → List (Option X) → Bool
 none [] = true
-none (b ∷ bs) = not b && none bs
+none (x ∷ xs) = not (is_some x) && none xs

@@ -1,5 +1,6 @@
 -- The state of a rack or a slate, as its users know it. Assumes nothing.
-use Rattle.std.specs.Prelude.{ℕ, ◌+◌, ◌-◌, ◌*◌, Bool, false, cond, ◌&&◌, List, [], ◌++◌, map, length, take, drop, ℤ, Option, ◌==◌, nat_le, slice_index, slice_index_or}
+use Rattle.std.specs.Prelude.{ℕ, ◌+◌, ◌-◌, ◌*◌, Bool, cond, ◌&&◌, List, [], ◌++◌, map, length, take, drop, ℤ, is_some, None, Option, nat_le, slice_index_or}
+use Rattle.std.specs.Option.{unwrap_or}
 use Rattle.bench.specs.declared.marks.Marks.{Marks}
 use Rattle.bench.specs.declared.rack.Rack.{Rack}
 use Rattle.bench.specs.declared.slate.Slate.{Slate}
@@ -34,46 +35,41 @@ cells_of cells k memory = take cells (drop (place_start cells k) memory)
 abbrev pub overwritten : {X : Type 0} → ℕ → List X → List X → List X
 overwritten start cells memory = take start memory ++ (cells ++ drop (start + length cells) memory)
 
--- the outline that marks stand for, with that many places
-abbrev pub outline_of : Marks → ℕ → Outline
-outline_of m places = record {
+-- the outline that marks stand for
+abbrev pub outline_of : {T : Type 0} → Marks T → Outline
+outline_of m = record {
   w = m.w;
   h = m.h;
-  places = places;
+  places = m.places;
   visit = m.visit;
-  filled = λ k. is_place places k && slice_index_or m.filled (k - 1) false;
+  filled = λ k. is_place m.places k && is_some (slice_index_or m.filled (k - 1) None);
 }
 
--- the state that marks and memory stand for, with that many places
-abbrev pub state_of : {X : Type 0} → Marks → ℕ → List X → State X
-state_of m places memory = record {
-  outline = outline_of m places;
-  content = λ k. cond ((outline_of m places).filled k) (cells_of (m.w * m.h) k memory) [];
+-- the state that marks and memory stand for
+abbrev pub state_of : {T X : Type 0} → Marks T → List X → State X
+state_of m memory = record {
+  outline = outline_of m;
+  content = λ k. cond ((outline_of m).filled k) (cells_of (m.w * m.h) k memory) [];
 }
-
--- How many places there are in memory of `sheets` cells with working planes of `planes` cells; a rack has two such
--- planes and a slate none. Memory of another size than the marks tell has no places.
-abbrev pub places_in_lem : Marks → ℕ → ℕ → ℕ → ℕ
-places_in_lem m working sheets planes = cond (sheets == m.places * (m.w * m.h) && planes == working * (m.w * m.h)) m.places 0
 
 -- the outline of a rack and of a slate
 abbrev pub rack_outline : {L : Type 0} → Rack L → Outline
-rack_outline r = outline_of r.marks (places_in_lem r.marks 2 (length r.sheets.now) (length r.planes.now))
+rack_outline r = outline_of r.marks
 
 abbrev pub slate_outline : Slate → Outline
-slate_outline s = outline_of s.marks (places_in_lem s.marks 0 (length s.tallies.now) 0)
+slate_outline s = outline_of s.marks
 
 -- the state of a rack whose levels have these heights, and of a slate
 abbrev pub rack_state : {L : Type 0} → (L → ℕ) → Rack L → State ℕ
-rack_state height r = state_of r.marks (rack_outline r).places (map height r.sheets.now)
+rack_state height r = state_of r.marks (map height r.sheets.now)
 
 abbrev pub slate_state : Slate → State ℤ
-slate_state s = state_of s.marks (slate_outline s).places s.tallies.now
+slate_state s = state_of s.marks s.tallies.now
 
 -- the sheet in place k of memory of heights
-abbrev pub sheet_in : Marks → List ℕ → ℕ → List ℕ
+abbrev pub sheet_in : {T : Type 0} → Marks T → List ℕ → ℕ → List ℕ
 sheet_in m heights k = cells_of (m.w * m.h) k heights
 
--- The weight of the tally in place k of a slate. A tally is a signed number for each cell, and a weight.
+-- The weight of the tally in place k of a slate, 0 where it is empty. A tally is a signed number for each cell, and a weight.
 abbrev pub tally_weight : Slate → ℕ → ℕ
-tally_weight s k = slice_index s.weights (k - 1)
+tally_weight s k = unwrap_or (slice_index_or s.marks.filled (k - 1) None) 0

@@ -1,9 +1,9 @@
 // The bench: a rack of sheets and a slate of tallies in lent memory, and the visits on them.
 #![tactic(auto)]
 
-mod fresh;
 mod marking;
 mod marks;
+mod opening;
 mod planes;
 mod rack;
 mod sheets;

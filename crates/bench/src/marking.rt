@@ -1,13 +1,13 @@
 // What is read off marks, what they refuse, and how they change.
-ghost use Rattle.std.specs.Prelude.{◌≡◌, ◌-◌, ◌*◌, ◌≤◌, true, false, replicate, is_some, Some, None, slice_set};
-ghost use Rattle.bench.specs.Calls.{begin_refusal, end_refusal, equal_benches, load_refusal, make_refusal, source_refusal, transform_refusal};
+ghost use Rattle.std.specs.Prelude.{◌≡◌, ◌-◌, ◌*◌, ◌≤◌, true, replicate, is_some, Some, None, MatchResult, slice_index_or, slice_set};
+ghost use Rattle.bench.specs.Calls.{begin_refusal, end_refusal, equal_benches, load_refusal, make_refusal, source_refusal};
 ghost use Rattle.limits.specs.Faults.{told};
-ghost use Rattle.bench.specs.Model.{outline_of, places_in_lem};
+ghost use Rattle.bench.specs.Model.{is_place, outline_of};
 
 use crate::marks::Marks;
 use limits::Fault;
 
-impl Marks {
+impl<T: Copy> Marks<T> {
     // How many cells a place has.
     pub(crate) fn cells(&self) -> usize
         ensures { result ≡ self.now.w * self.now.h }
@@ -15,37 +15,28 @@ impl Marks {
         self.w * self.h
     }
 
-    // How many places there are in memory of these sizes, with `working` working planes.
-    pub(crate) fn places_in(&self, working: usize, sheets: usize, planes: usize) -> usize
-        requires { working ≤ 2 }
-        ensures { result ≡ places_in_lem self.now working sheets planes }
+    // Whether there is a place of this number.
+    fn has_place(&self, place: usize) -> bool
+        ensures { result ≡ is_place self.now.places place }
     {
-        let cells = self.cells();
-        if sheets != self.places * cells || planes != working * cells {
-            return 0;
-        }
-        self.places
+        (1..=self.places).contains(&place)
     }
 
-    // Whether the place, one of so many, is filled.
-    fn is_filled(&self, places: usize, place: usize) -> bool
-        requires { places ≤ 12 }
-        ensures { result ≡ (outline_of self.now places).filled place }
+    // Whether there is a place of this number and it is filled.
+    fn is_filled(&self, place: usize) -> bool
+        ensures { result ≡ (outline_of self.now).filled place }
     {
-        if place < 1 || place > places {
-            return false;
-        }
-        self.filled[place - 1]
+        self.has_place(place) && self.filled[place - 1].is_some()
     }
 
     // What load refuses: 4, 5, 31.
-    pub(crate) fn refuse_load(&self, places: usize, place: usize, len: usize) -> Result<(), Fault>
-        ensures { result ≡ told (load_refusal (outline_of self.now places) place len) }
+    pub(crate) fn refuse_load(&self, place: usize, len: usize) -> Result<(), Fault>
+        ensures { result ≡ told (load_refusal (outline_of self.now) place len) }
     {
         if len != self.cells() {
             return Err(Fault::Length);
         }
-        if place < 1 || place > places {
+        if !self.has_place(place) {
             return Err(Fault::SheetPlace);
         }
         if self.visit.is_none() {
@@ -54,140 +45,86 @@ impl Marks {
         Ok(())
     }
 
-    // What a call from the sheet in one place to another refuses: 5, 31, 34.
-    pub(crate) fn refuse_transform(
-        &self,
-        places: usize,
-        from: usize,
-        to: usize,
-    ) -> Result<(), Fault>
-        requires { places ≤ 12 }
-        ensures { result ≡ told (transform_refusal (outline_of self.now places) from to) }
+    // What is kept beside the cells of a place. Refuses what a call does that reads what is in it, with the faults of no such
+    // place and of an empty one: 5 or 6, 31, 34 or 35.
+    pub(crate) fn source(&self, place: usize, no_place: Fault, empty: Fault) -> Result<T, Fault>
+        ensures { MatchResult result
+            (λ content. (source_refusal no_place empty (outline_of self.now) place ≡ None)
+            × (slice_index_or self.now.filled (place - 1) None ≡ Some content))
+            (λ fault. source_refusal no_place empty (outline_of self.now) place ≡ Some fault) }
     {
-        if from < 1 || from > places || to < 1 || to > places {
-            return Err(Fault::SheetPlace);
-        }
-        if self.visit.is_none() {
-            return Err(Fault::NoVisit);
-        }
-        if !self.is_filled(places, from) {
-            return Err(Fault::EmptySheet);
-        }
-        Ok(())
-    }
-
-    // What a call refuses that reads what is in a place, with the faults of no such place and of an empty one: 5 or 6, 31,
-    // 34 or 35.
-    pub(crate) fn refuse_source(
-        &self,
-        places: usize,
-        place: usize,
-        no_place: Fault,
-        empty: Fault,
-    ) -> Result<(), Fault>
-        requires { places ≤ 12 }
-        ensures { result ≡ told (source_refusal no_place empty (outline_of self.now places) place) }
-    {
-        if place < 1 || place > places {
+        if !self.has_place(place) {
             return Err(no_place);
         }
         if self.visit.is_none() {
             return Err(Fault::NoVisit);
         }
-        if !self.is_filled(places, place) {
-            return Err(empty);
-        }
-        Ok(())
+        self.filled[place - 1].ok_or(empty)
     }
 
     // What a call refuses that makes a sheet of those in two places into a third: 5, 31, 34.
-    pub(crate) fn refuse_make(
-        &self,
-        places: usize,
-        one: usize,
-        other: usize,
-        to: usize,
-    ) -> Result<(), Fault>
-        requires { places ≤ 12 }
-        ensures { result ≡ told (make_refusal (outline_of self.now places) one other to) }
+    pub(crate) fn refuse_make(&self, one: usize, other: usize, to: usize) -> Result<(), Fault>
+        ensures { result ≡ told (make_refusal (outline_of self.now) one other to) }
     {
-        if other < 1 || other > places || to < 1 || to > places {
+        if !self.has_place(other) || !self.has_place(to) {
             return Err(Fault::SheetPlace);
         }
-        self.refuse_source(places, one, Fault::SheetPlace, Fault::EmptySheet)?;
-        if !self.is_filled(places, other) {
+        self.source(one, Fault::SheetPlace, Fault::EmptySheet)?;
+        if !self.is_filled(other) {
             return Err(Fault::EmptySheet);
         }
         Ok(())
     }
 
-    // The marks with one more place filled.
-    pub(crate) fn with_filled(&self, place: usize) -> Marks
+    // Fills a place.
+    pub(crate) fn fill(&mut self, place: usize, content: T)
         requires place { (1 ≤ place) × (place ≤ 12) }
-        requires visit { is_some self.now.visit ≡ true }
-        ensures w { result.w ≡ self.now.w }
-        ensures h { result.h ≡ self.now.h }
-        ensures places { result.places ≡ self.now.places }
-        ensures visit { result.visit ≡ self.now.visit }
-        ensures filled { result.filled ≡ slice_set self.now.filled (place - 1) true }
+        requires visit { is_some self.old.visit ≡ true }
+        ensures w { self.new.w ≡ self.old.w }
+        ensures h { self.new.h ≡ self.old.h }
+        ensures places { self.new.places ≡ self.old.places }
+        ensures visit { self.new.visit ≡ self.old.visit }
+        ensures filled { self.new.filled ≡ slice_set self.old.filled (place - 1) (Some content) }
     {
-        let mut filled = self.filled;
-        filled[place - 1] = true;
-        Marks {
-            w: self.w,
-            h: self.h,
-            places: self.places,
-            visit: self.visit,
-            filled,
-        }
+        self.filled[place - 1] = Some(content);
     }
 
-    // The marks with a visit open.
-    pub(crate) fn with_visit(&self, flat: u16) -> Marks
-        ensures w { result.w ≡ self.now.w }
-        ensures h { result.h ≡ self.now.h }
-        ensures places { result.places ≡ self.now.places }
-        ensures visit { result.visit ≡ Some flat }
-        ensures filled { result.filled ≡ self.now.filled }
+    // Opens a visit.
+    pub(crate) fn open(&mut self, flat: u16)
+        ensures w { self.new.w ≡ self.old.w }
+        ensures h { self.new.h ≡ self.old.h }
+        ensures places { self.new.places ≡ self.old.places }
+        ensures visit { self.new.visit ≡ Some flat }
+        ensures filled { self.new.filled ≡ self.old.filled }
     {
-        Marks {
-            w: self.w,
-            h: self.h,
-            places: self.places,
-            visit: Some(flat),
-            filled: self.filled,
-        }
+        self.visit = Some(flat);
     }
 
-    // The marks with no visit open and every place empty.
-    pub(crate) fn cleared(&self) -> Marks
-        ensures w { result.w ≡ self.now.w }
-        ensures h { result.h ≡ self.now.h }
-        ensures places { result.places ≡ self.now.places }
-        ensures visit { result.visit ≡ None }
-        ensures filled { result.filled ≡ replicate 12 false }
+    // Closes the visit and empties every place.
+    pub(crate) fn clear(&mut self)
+        ensures w { self.new.w ≡ self.old.w }
+        ensures h { self.new.h ≡ self.old.h }
+        ensures places { self.new.places ≡ self.old.places }
+        ensures visit { self.new.visit ≡ None }
+        ensures filled { self.new.filled ≡ replicate 12 None }
     {
-        Marks {
-            w: self.w,
-            h: self.h,
-            places: self.places,
-            visit: None,
-            filled: [false; 12],
-        }
+        let empty = [None; 12];
+        self.filled = empty;
+        self.visit = None;
     }
 
     // Whether rack and slate have the same sides and the same visit, or none.
-    fn equals(&self, slate: &Marks) -> bool
-        ensures { result ≡ equal_benches (outline_of self.now 0) (outline_of slate.now 0) }
+    fn equals<U: Copy>(&self, slate: &Marks<U>) -> bool
+        ensures { result ≡ equal_benches (outline_of self.now) (outline_of slate.now) }
     {
-        self.w == slate.w && self.h == slate.h && self.visit == slate.visit
+        (self.w, self.h, self.visit) == (slate.w, slate.h, slate.visit)
     }
 
-    // What begin refuses: 11, 32, 37. How many places there are does not count.
-    pub(crate) fn refuse_begin(&self, slate: &Marks, flat: u16) -> Result<(), Fault>
-        ensures { result ≡ told (begin_refusal (outline_of self.now 0) (outline_of slate.now 0) flat) }
+    // What begin refuses: 11, 32, 37.
+    pub(crate) fn refuse_begin<U: Copy>(&self, slate: &Marks<U>, flat: u16) -> Result<(), Fault>
+        ensures { result ≡ told (begin_refusal (outline_of self.now) (outline_of slate.now) flat) }
     {
-        if flat < 1 || flat > 9999 {
+        if !(1..=9999).contains(&flat) {
             return Err(Fault::Flat);
         }
         if self.visit.is_some() || slate.visit.is_some() {
@@ -199,9 +136,9 @@ impl Marks {
         Ok(())
     }
 
-    // What end refuses: 31, 33, 37. How many places there are does not count.
-    pub(crate) fn refuse_end(&self, slate: &Marks, flat: u16) -> Result<(), Fault>
-        ensures { result ≡ told (end_refusal (outline_of self.now 0) (outline_of slate.now 0) flat) }
+    // What end refuses: 31, 33, 37.
+    pub(crate) fn refuse_end<U: Copy>(&self, slate: &Marks<U>, flat: u16) -> Result<(), Fault>
+        ensures { result ≡ told (end_refusal (outline_of self.now) (outline_of slate.now) flat) }
     {
         let Some(open) = self.visit else {
             return Err(Fault::NoVisit);

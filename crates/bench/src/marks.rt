@@ -1,16 +1,16 @@
-// The marks of a rack or a slate: its sides and places, which of them are filled, and the open visit.
+// The marks of a rack or a slate: its sides and places, what each place is filled with, and the open visit.
 ghost use Rattle.std.specs.Prelude.{◌≡◌, ◌≤◌, min, true, ◌||◌, length, is_some};
 ghost use Rattle.bench.specs.Flags.{none};
 
-/// Sides, number of places, the flat of the open visit or none, and which places are filled.
-/// With no visit open every place is empty.
-#[derive(Clone, Copy)]
-pub struct Marks {
+/// Sides, number of places, the flat of the open visit or none, and for each filled place what is kept of it beside its
+/// cells: nothing of a sheet, its weight of a tally. With no visit open every place is empty.
+#[derive(Drop)]
+pub struct Marks<T> {
     pub(crate) w: usize,
     pub(crate) h: usize,
     pub(crate) places: usize,
     pub(crate) visit: Option<u16>,
-    pub(crate) filled: [bool; 12],
+    pub(crate) filled: [Option<T>; 12],
     ghost twelve: { length filled ≡ 12 },
     ghost some_column: { min 1 places ≤ w },
     ghost some_row: { min 1 places ≤ h },

@@ -1,27 +1,25 @@
 // The calls on the sheets of a rack.
-ghost use Rattle.std.specs.Prelude.{◌≡◌, ◌*◌, ◌≤◌, map, length, Some, None, MatchResult, OnErr};
-ghost use Rattle.bench.specs.Calls.{MakesSheet, area_answer, load_refusal, load_leaves, operate_leaves, operate_writes, sheet_refusal, transform_refusal};
+ghost use Rattle.std.specs.Prelude.{◌≡◌, ◌*◌, ◌≤◌, map, length, Some, None, MatchResult};
+ghost use Rattle.bench.specs.Calls.{MakesSheet, OperatesOnSheet, area_answer, load_refusal, load_leaves, sheet_refusal};
 ghost use Rattle.limits.specs.Faults.{told};
 ghost use Rattle.bench.specs.Model.{overwritten, place_start, rack_outline, rack_state};
 ghost use Rattle.elements.specs.Elements.{offsets};
 ghost use Rattle.morphology.specs.declared.operation.Operation.TheVariants.{Erosion, Dilation};
 
-use crate::planes::{area_from, make_place, operate_place, part, store};
+use crate::planes::{area_of, make_place, part, store};
 use crate::rack::Rack;
 use elements::Element;
 use levels::level::Level;
 use limits::Fault;
-use morphology::{Operation, Transform};
+use morphology::{ByElement, Operation, Transform};
 
-impl<L: Level> Rack<'_, '_, L> {
+impl<L: Level> Rack<'_, L> {
     /// The width and height of the rack's sheets and the number of its places; all 0 where it was opened with wrong sizes.
     pub fn sizes(&self) -> (usize, usize, usize)
         ensures value { result ≡ ((rack_outline self.now).w, (rack_outline self.now).h, (rack_outline self.now).places) }
         ensures bound { (result.0 ≤ 1024) × (result.1 ≤ 1024) }
     {
-        let marks = self.marks;
-        let places = marks.places_in(2, self.sheets.len(), self.planes.len());
-        (marks.w, marks.h, places)
+        (self.marks.w, self.marks.h, self.marks.places)
     }
 
     /// Fills a place from a picture of w × h levels.
@@ -34,11 +32,10 @@ impl<L: Level> Rack<'_, '_, L> {
             (λ _. self.new.sheets.now ≡ self.old.sheets.now) }
         ensures planes { self.new.planes.now ≡ self.old.planes.now }
     {
-        let marks = self.marks;
-        let places = marks.places_in(2, self.sheets.len(), self.planes.len());
-        marks.refuse_load(places, place, picture.len())?;
-        store(self.sheets, (place - 1) * marks.cells(), picture);
-        self.marks = marks.with_filled(place);
+        self.marks.refuse_load(place, picture.len())?;
+        let start = (place - 1) * self.marks.cells();
+        store(self.sheets, start, picture);
+        self.marks.fill(place, ());
         Ok(())
     }
 
@@ -50,44 +47,15 @@ impl<L: Level> Rack<'_, '_, L> {
         from: usize,
         to: usize,
     ) -> Result<(), Fault>
-        ensures answers { result ≡ told (transform_refusal (rack_outline self.old) from to) }
-        ensures steps { rack_state L.height self.new ≡ operate_leaves op (rack_state L.height self.old) (offsets element.now) from to }
-        ensures memory { MatchResult result
-            (λ _. map L.height self.new.sheets.now ≡ operate_writes op self.old.marks (offsets element.now) from to (map L.height self.old.sheets.now))
-            (λ _. self.new.sheets.now ≡ self.old.sheets.now) }
-        ensures planes { OnErr result (self.new.planes.now ≡ self.old.planes.now) }
+        ensures { OperatesOnSheet L.height op (offsets element.now) self.old self.new from to result }
     {
-        let marks = self.marks;
-        let places = marks.places_in(2, self.sheets.len(), self.planes.len());
-        marks.refuse_transform(places, from, to)?;
-        let cells = marks.cells();
-        let filled = marks.with_filled(to);
-        // Both parts of the memory are lent at once, so the planes leave the rack for the time of the call.
-        let planes = std::mem::replace(&mut self.planes, &mut []);
-        operate_place(
-            op,
-            self.sheets,
-            planes,
-            marks.w,
-            marks.h,
-            (from - 1) * cells,
-            (to - 1) * cells,
-            element,
-        );
-        self.planes = planes;
-        self.marks = filled;
-        Ok(())
+        self.make(&ByElement { op, element }, from, from, to)
     }
 
     /// Fills the place `to` with the erosion by an element of the sheet in the place `from`, which may be the same.
     /// Refuses a place that the rack has not (5), no visit open (31), and a source place that is empty (34).
     pub fn erode(&mut self, element: &Element, from: usize, to: usize) -> Result<(), Fault>
-        ensures answers { result ≡ told (transform_refusal (rack_outline self.old) from to) }
-        ensures steps { rack_state L.height self.new ≡ operate_leaves Erosion (rack_state L.height self.old) (offsets element.now) from to }
-        ensures memory { MatchResult result
-            (λ _. map L.height self.new.sheets.now ≡ operate_writes Erosion self.old.marks (offsets element.now) from to (map L.height self.old.sheets.now))
-            (λ _. self.new.sheets.now ≡ self.old.sheets.now) }
-        ensures planes { OnErr result (self.new.planes.now ≡ self.old.planes.now) }
+        ensures { OperatesOnSheet L.height Erosion (offsets element.now) self.old self.new from to result }
     {
         self.transform(Operation::Erosion, element, from, to)
     }
@@ -95,12 +63,7 @@ impl<L: Level> Rack<'_, '_, L> {
     /// Fills the place `to` with the dilation by an element of the sheet in the place `from`, which may be the same.
     /// Refuses a place that the rack has not (5), no visit open (31), and a source place that is empty (34).
     pub fn dilate(&mut self, element: &Element, from: usize, to: usize) -> Result<(), Fault>
-        ensures answers { result ≡ told (transform_refusal (rack_outline self.old) from to) }
-        ensures steps { rack_state L.height self.new ≡ operate_leaves Dilation (rack_state L.height self.old) (offsets element.now) from to }
-        ensures memory { MatchResult result
-            (λ _. map L.height self.new.sheets.now ≡ operate_writes Dilation self.old.marks (offsets element.now) from to (map L.height self.old.sheets.now))
-            (λ _. self.new.sheets.now ≡ self.old.sheets.now) }
-        ensures planes { OnErr result (self.new.planes.now ≡ self.old.planes.now) }
+        ensures { OperatesOnSheet L.height Dilation (offsets element.now) self.old self.new from to result }
     {
         self.transform(Operation::Dilation, element, from, to)
     }
@@ -110,11 +73,7 @@ impl<L: Level> Rack<'_, '_, L> {
     pub fn area(&self, place: usize) -> Result<u64, Fault>
         ensures { result ≡ area_answer (rack_state L.height self.now) place }
     {
-        let marks = self.marks;
-        let places = marks.places_in(2, self.sheets.len(), self.planes.len());
-        marks.refuse_transform(places, place, place)?;
-        let cells = marks.cells();
-        Ok(area_from(self.sheets, (place - 1) * cells, cells))
+        Ok(area_of(self.sheet(place)?))
     }
 
     /// The levels of the sheet in a place.
@@ -128,10 +87,9 @@ impl<L: Level> Rack<'_, '_, L> {
             × (1 ≤ (rack_outline self.now).w) × (1 ≤ length sheet.now) × (length sheet.now ≤ 1048576))
             (λ _. Unit {0}) }
     {
-        let marks = self.marks;
-        let places = marks.places_in(2, self.sheets.len(), self.planes.len());
-        marks.refuse_source(places, place, Fault::SheetPlace, Fault::EmptySheet)?;
-        let cells = marks.cells();
+        self.marks
+            .source(place, Fault::SheetPlace, Fault::EmptySheet)?;
+        let cells = self.marks.cells();
         Ok(part(self.sheets, (place - 1) * cells, cells))
     }
 
@@ -147,25 +105,20 @@ impl<L: Level> Rack<'_, '_, L> {
     ) -> Result<(), Fault>
         ensures { MakesSheet L.height (T.makes transform.now) self.old self.new one other to result }
     {
-        let marks = self.marks;
-        let places = marks.places_in(2, self.sheets.len(), self.planes.len());
-        marks.refuse_make(places, one, other, to)?;
+        let marks = &self.marks;
+        marks.refuse_make(one, other, to)?;
         let cells = marks.cells();
-        let filled = marks.with_filled(to);
-        // Both parts of the memory are lent at once, so the planes leave the rack for the time of the call.
-        let planes = std::mem::replace(&mut self.planes, &mut []);
         make_place(
             transform,
             self.sheets,
-            planes,
+            self.planes,
             marks.w,
             marks.h,
             (one - 1) * cells,
             (other - 1) * cells,
             (to - 1) * cells,
         );
-        self.planes = planes;
-        self.marks = filled;
+        self.marks.fill(to, ());
         Ok(())
     }
 }

@@ -13,9 +13,7 @@ impl Slate<'_> {
         ensures value { result ≡ ((slate_outline self.now).w, (slate_outline self.now).h, (slate_outline self.now).places) }
         ensures bound { (result.0 ≤ 1024) × (result.1 ≤ 1024) }
     {
-        let marks = self.marks;
-        let places = marks.places_in(0, self.tallies.len(), 0);
-        (marks.w, marks.h, places)
+        (self.marks.w, self.marks.h, self.marks.places)
     }
 
     /// The numbers and the weight of the tally in a place.
@@ -30,13 +28,10 @@ impl Slate<'_> {
             (λ tally. length tally.0.now ≡ (slate_outline self.now).w * (slate_outline self.now).h)
             (λ _. Unit {0}) }
     {
-        let marks = self.marks;
-        let places = marks.places_in(0, self.tallies.len(), 0);
-        marks.refuse_source(places, place, Fault::TallyPlace, Fault::EmptyTally)?;
-        let cells = marks.cells();
-        Ok((
-            part(self.tallies, (place - 1) * cells, cells),
-            self.weights[place - 1],
-        ))
+        let weight = self
+            .marks
+            .source(place, Fault::TallyPlace, Fault::EmptyTally)?;
+        let cells = self.marks.cells();
+        Ok((part(self.tallies, (place - 1) * cells, cells), weight))
     }
 }

@@ -1,10 +1,9 @@
 // Visits: begin hands out a slip, and end takes it back and empties the bench.
-ghost use Rattle.std.specs.Prelude.{◌≡◌, map, length, replicate, pos, Some, None, MatchResult};
+ghost use Rattle.std.specs.Prelude.{◌≡◌, ℕ, map, length, replicate, pos, Some, None, MatchResult};
 ghost use Rattle.bench.specs.Calls.{begin_refusal, end_refusal, ended, visited};
 ghost use Rattle.limits.specs.Faults.{unless};
-ghost use Rattle.bench.specs.Model.{rack_outline, rack_state, slate_outline, slate_state};
+ghost use Rattle.bench.specs.Model.{rack_outline, rack_state, slate_outline, slate_state, tally_weight};
 
-use crate::planes::fill;
 use crate::rack::Rack;
 use crate::slate::Slate;
 use crate::slip::{EndRefused, Slip};
@@ -16,7 +15,7 @@ use limits::Fault;
 /// differ (37).
 pub fn begin<L: Level>(
     flat: u16,
-    rack: &mut Rack<'_, '_, L>,
+    rack: &mut Rack<'_, L>,
     slate: &mut Slate<'_>,
 ) -> Result<Slip, Fault>
     ensures answers { MatchResult result
@@ -27,11 +26,11 @@ pub fn begin<L: Level>(
     ensures sheets { rack.new.sheets.now ≡ rack.old.sheets.now }
     ensures planes { rack.new.planes.now ≡ rack.old.planes.now }
     ensures tallies { slate.new.tallies.now ≡ slate.old.tallies.now }
-    ensures weights { slate.new.weights ≡ slate.old.weights }
+    ensures weights { (k : ℕ) → tally_weight slate.new k ≡ tally_weight slate.old k }
 {
     rack.marks.refuse_begin(&slate.marks, flat)?;
-    rack.marks = rack.marks.with_visit(flat);
-    slate.marks = slate.marks.with_visit(flat);
+    rack.marks.open(flat);
+    slate.marks.open(flat);
     Ok(Slip { flat })
 }
 
@@ -41,7 +40,7 @@ pub fn begin<L: Level>(
 /// differ (37); it then hands the slip back.
 pub fn end<L: Level>(
     mut slip: Slip,
-    rack: &mut Rack<'_, '_, L>,
+    rack: &mut Rack<'_, L>,
     slate: &mut Slate<'_>,
 ) -> Result<(), EndRefused>
     ensures answers { MatchResult result
@@ -57,19 +56,18 @@ pub fn end<L: Level>(
         × (rack.new.planes.now ≡ rack.old.planes.now)
         × (slate.new.tallies.now ≡ slate.old.tallies.now)) }
     ensures weights { MatchResult result
-        (λ _. slate.new.weights ≡ replicate 12 0)
-        (λ _. slate.new.weights ≡ slate.old.weights) }
+        (λ _. (k : ℕ) → tally_weight slate.new k ≡ 0)
+        (λ _. (k : ℕ) → tally_weight slate.new k ≡ tally_weight slate.old k) }
 {
-    match rack.marks.refuse_end(&slate.marks, slip.flat) {
-        Err(fault) => return Err(EndRefused { slip, fault }),
-        Ok(()) => {}
+    if let Err(fault) = rack.marks.refuse_end(&slate.marks, slip.flat) {
+        return Err(EndRefused { slip, fault });
     }
-    fill(rack.sheets, L::lowest());
-    fill(rack.planes, L::lowest());
-    fill(slate.tallies, 0);
-    rack.marks = rack.marks.cleared();
-    slate.marks = slate.marks.cleared();
-    slate.weights = [0; 12];
+    let lowest = L::lowest();
+    rack.sheets.fill_with(|| lowest);
+    rack.planes.fill_with(|| lowest);
+    slate.tallies.fill(0);
+    rack.marks.clear();
+    slate.marks.clear();
     slip.flat = 0;
     Ok(())
 }

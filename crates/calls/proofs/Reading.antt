@@ -1,7 +1,9 @@
 -- What loops over the heights of a sheet come to. Assumes nothing.
-use Rattle.std.proofs.Common.{◌≡◌, ℕ, suc, ◌+◌, ◌<◌, ◌≤◌, min, max, ◌≢◌, List, [], ◌∷◌, length, get_or, drop, fold, ap, ◌∙◌, arith}
-use Rattle.std.proofs.lemmas.List.{at_drop_more}
-use Rattle.std.proofs.lemmas.Bool.{cond-true, cond-false, eq-eqb, ne_eqb}
+use Rattle.std.proofs.Common.{◌≡◌, ℕ, suc, ◌+◌, ◌≤◌, min, max, cond, eqb, ltb, List, [], ◌∷◌, map, length, get_or, fold, Some, None, refl, ap, inl, inr, arith}
+use Rattle.std.specs.List.{position_or_len}
+use Rattle.std.specs.Option.{unwrap_or}
+use Rattle.std.proofs.lemmas.List.Recursion.{is_position_or_len}
+use Rattle.std.proofs.lemmas.Bool.{cases_lt, lt-ltb, le-ltb}
 use Rattle.morphology.specs.declared.operation.Operation.{Operation}
 use Rattle.morphology.specs.declared.operation.Operation.TheVariants.{Erosion, Dilation}
 use Rattle.morphology.specs.Cells.{extreme_of, first_place}
@@ -13,11 +15,13 @@ fold_is_extreme op [] some = absurd (omega arith)
 fold_is_extreme Erosion (x ∷ f) some = let same : min x x ≡ x = omega arith in ap (λ y. fold min y f) same
 fold_is_extreme Dilation (x ∷ f) some = let same : max x x ≡ max 0 x = omega arith in ap (λ y. fold max y f) same
 
--- Of what is left of a sheet from place k on, the first place of a height is at once where that height stands at k, and else
--- one further than in what is left after it.
-module _ (x : ℕ) (f : List ℕ) (k : ℕ) (within : k < length f) where
-  pub found_here : get_or f k 0 ≡ x → first_place x (drop k f) ≡ 0
-  found_here here = at_drop_more (first_place x) f k 0 within ∙ cond-true _ 0 (suc (first_place x (drop (k + 1) f))) (eq-eqb _ _ here)
+-- the first place of a height is where the first level of that height stands, or behind the last level
+pub first_place-position : {X : Type 0} (height : X → ℕ) (h : ℕ) (xs : List X) → first_place h (map height xs) ≡ position_or_len (λ x. eqb (height x) h) xs
+first_place-position height h = is_position_or_len (λ xs. first_place h (map height xs)) (λ x. eqb (height x) h) refl (λ x xs. let next : suc (first_place h (map height xs)) ≡ 1 + first_place h (map height xs) = omega arith in ap (cond (eqb (height x) h) 0) next)
 
-  pub found_later : get_or f k 0 ≢ x → first_place x (drop k f) ≡ suc (first_place x (drop (k + 1) f))
-  found_later other = at_drop_more (first_place x) f k 0 within ∙ cond-false _ 0 (suc (first_place x (drop (k + 1) f))) (ne_eqb _ _ other)
+-- a place that is told only where it is before the end, and else the end
+pub told_or_end : (place end : ℕ) → place ≤ end → unwrap_or (cond (ltb place end) (Some place) None) end ≡ place
+told_or_end place end within = elim (cases_lt place end) [
+  | inl before ↦ rw (lt-ltb place end before) refl
+  | inr behind ↦ rw (le-ltb place end behind) (omega arith)
+]

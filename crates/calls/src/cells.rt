@@ -26,8 +26,8 @@ pub(crate) fn write_mask<L: Level>(sheet: &[L], height: u32, mask: &mut [Mask])
     requires { length mask.old ≡ length sheet.now }
     ensures { map mask_height mask.new ≡ cut height (map L.height sheet.now) }
 {
-    for k in 0..mask.len() {
-        mask[k] = mask_of(sheet[k], height);
+    for (place, level) in sheet.iter().enumerate() {
+        mask[place] = mask_of(*level, height);
     }
 }
 
@@ -47,12 +47,11 @@ fn extreme<L: Level>(op: Operation, sheet: &[L]) -> L
 fn place_of<L: Level>(sheet: &[L], level: L) -> usize
     ensures { result ≡ first_place (L.height level) (map L.height sheet.now) }
 {
-    for (place, other) in sheet.iter().enumerate() {
-        if other.at_most(level) && level.at_most(*other) {
-            return place;
-        }
-    }
-    sheet.len()
+    // Two levels are the same where neither is above the other; a bound of equality would ask more of who writes a kind.
+    sheet
+        .iter()
+        .position(|other| other.at_most(level) && level.at_most(*other))
+        .unwrap_or(sheet.len())
 }
 
 // The first spot of a sheet's least level for erosion, of its greatest for dilation.

@@ -12,7 +12,7 @@ use morphology::{CellByCell, Operation};
 /// Refuses a place that the rack has not (5), no visit open (31), and a source place that is empty (34); a refusal changes
 /// nothing. Of the memory exactly the target's cells change, and the working planes are left as they may be.
 pub fn meet<L: Level>(
-    rack: &mut Rack<'_, '_, L>,
+    rack: &mut Rack<'_, L>,
     one: usize,
     other: usize,
     to: usize,
@@ -30,7 +30,7 @@ pub fn meet<L: Level>(
 /// Refuses a place that the rack has not (5), no visit open (31), and a source place that is empty (34); a refusal changes
 /// nothing. Of the memory exactly the target's cells change, and the working planes are left as they may be.
 pub fn join<L: Level>(
-    rack: &mut Rack<'_, '_, L>,
+    rack: &mut Rack<'_, L>,
     one: usize,
     other: usize,
     to: usize,

@@ -15,7 +15,7 @@ use limits::Fault;
 
 /// Tells the span of the sheet in a place: the spots of its least and of its greatest level, each the first in reading order.
 /// Refuses a place that the rack has not (5), no visit open (31), and a place that is empty (34).
-pub fn span<L: Level>(rack: &Rack<'_, '_, L>, place: usize) -> Result<(Spot<L>, Spot<L>), Fault>
+pub fn span<L: Level>(rack: &Rack<'_, L>, place: usize) -> Result<(Spot<L>, Spot<L>), Fault>
     ensures answers { spots_told L.height result ≡ span_answer (rack_state L.height rack.now) place }
     ensures spots { SpotsAreFirstExtremes }
 {
@@ -28,7 +28,7 @@ pub fn span<L: Level>(rack: &Rack<'_, '_, L>, place: usize) -> Result<(Spot<L>, 
 /// Refuses a list of another length (4), a place that the rack has not (5), no visit open (31), and a place that is
 /// empty (34), and then leaves the list as it was.
 pub fn show_sheet<L: Level>(
-    rack: &Rack<'_, '_, L>,
+    rack: &Rack<'_, L>,
     place: usize,
     list: &mut [L],
 ) -> Result<(), Fault>
@@ -69,7 +69,7 @@ pub fn show_tally(slate: &Slate<'_>, place: usize, list: &mut [i32]) -> Result<u
 /// Refuses a list of another length (4), a place that the rack has not (5), a height outside its limits (9), no visit
 /// open (31), and a place that is empty (34), and then leaves the list as it was.
 pub fn cut<L: Level>(
-    rack: &Rack<'_, '_, L>,
+    rack: &Rack<'_, L>,
     place: usize,
     height: u32,
     mask: &mut [Mask],
@@ -83,10 +83,10 @@ pub fn cut<L: Level>(
     if mask.len() != w * h {
         return Err(Fault::Length);
     }
-    if place < 1 || place > places {
+    if !(1..=places).contains(&place) {
         return Err(Fault::SheetPlace);
     }
-    if height < 1 || height > L::highest().height() {
+    if !(1..=L::highest().height()).contains(&height) {
         return Err(Fault::FactorOrHeight);
     }
     let sheet = rack.sheet(place)?;

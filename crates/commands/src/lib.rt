@@ -4,10 +4,10 @@
 ghost use Rattle.std.specs.Prelude.{◌≡◌, ◌≤◌, length, IfErr, MatchResult};
 ghost use Rattle.commands.specs.Reading.{command_on_lem, read, TellsArguments, ReadsBackLines, ReadsOnlyLines, RefusesLinesAtMisfit};
 
-use text::{Misfit, fixed, number};
+use text::{Misfit, Scanner};
 
 /// A command of a job: what a line of it says.
-#[derive(Clone, Copy)]
+#[derive(Clone, Copy, Debug, PartialEq, Eq)]
 pub enum Command {
     /// `V flat`: begins a visit.
     Begin { flat: u16 },
@@ -24,20 +24,17 @@ pub enum Command {
 }
 
 /// A line that is no command's: refusal 22, at the column of its first misfit, counted from 1, or one past its end where it ends too early.
-#[derive(Clone, Copy)]
+#[derive(Clone, Copy, Debug, PartialEq, Eq)]
 pub struct LineFault {
     pub column: usize,
 }
-
-// The number of the refusal of a line.
-const NO_COMMAND: u32 = 22;
 
 impl LineFault {
     /// The number of this refusal.
     pub fn number(self) -> u32
         ensures { result ≡ 22 }
     {
-        NO_COMMAND
+        22
     }
 }
 
@@ -49,12 +46,9 @@ pub fn read_line(line: &[u8]) -> Result<Command, LineFault>
     ensures only { ReadsOnlyLines }
     ensures misfit { RefusesLinesAtMisfit }
 {
-    match command_on(line) {
-        Ok(command) => Ok(command),
-        Err(misfit) => Err(LineFault {
-            column: misfit.place + 1,
-        }),
-    }
+    command_on(line).map_err(|misfit| LineFault {
+        column: misfit.place + 1,
+    })
 }
 
 // The command on a line, or the place of the line's first misfit.
@@ -62,31 +56,28 @@ fn command_on(line: &[u8]) -> Result<Command, Misfit>
     ensures answers { result ≡ command_on_lem line.now }
     ensures within { IfErr result (λ misfit. misfit.place ≤ length line.now) }
 {
-    if line.is_empty() {
-        return Err(Misfit { place: 0 });
-    }
-    match char::from(line[0]) {
-        'V' => {
+    match line {
+        [b'V', ..] => {
             let [flat] = numbers::<1>(line)?;
             Ok(Command::Begin { flat })
         }
-        'L' => {
+        [b'L', ..] => {
             let [place] = numbers::<1>(line)?;
             Ok(Command::Load { place })
         }
-        'E' => {
+        [b'E', ..] => {
             let [from, to] = numbers::<2>(line)?;
             Ok(Command::Erode { from, to })
         }
-        'D' => {
+        [b'D', ..] => {
             let [from, to] = numbers::<2>(line)?;
             Ok(Command::Dilate { from, to })
         }
-        'A' => {
+        [b'A', ..] => {
             let [place] = numbers::<1>(line)?;
             Ok(Command::Area { place })
         }
-        'X' => {
+        [b'X', ..] => {
             let [] = numbers::<0>(line)?;
             Ok(Command::End)
         }
@@ -100,16 +91,14 @@ fn numbers<const N: usize>(line: &[u8]) -> Result<[u16; N], Misfit>
     ensures answers { TellsArguments N line.now result }
     ensures within { MatchResult result (λ ns. length ns ≡ N) (λ misfit. misfit.place ≤ length line.now) }
 {
+    let mut scanner = Scanner { bytes: line, at: 1 };
     let mut numbers = [0; N];
-    let mut at = 1;
-    for i in 0..N {
-        let start = fixed(line, at, b" ")?;
-        let read = number(line, start, 0)?;
-        numbers[i] = read.value;
-        at = read.end;
+    for number in &mut numbers {
+        scanner.fixed(b" ")?;
+        *number = scanner.number(0)?;
     }
-    if at < line.len() {
-        return Err(Misfit { place: at });
+    if scanner.at < line.len() {
+        return Err(Misfit { place: scanner.at });
     }
     Ok(numbers)
 }

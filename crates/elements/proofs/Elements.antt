@@ -1,10 +1,11 @@
 -- The laws of an element's offsets.
 use Rattle.std.proofs.Common.{sym, ◌∙◌, subst, arith}
+use Rattle.std.proofs.lemmas.List.Sums.{count_by-le-length}
 use Rattle.elements.specs.declared.element.Element.{Element}
 use Rattle.elements.specs.Elements.{OffsetsLaw, SameOffsetsSameFlags}
 use Rattle.elements.specs.Offsets.{Near}
 use Rattle.elements.proofs.Squares.{near_offset_at}
-use Rattle.elements.proofs.Flags.{count_at_most_length, flag_member, flagged_different, flagged_within, length-flagged, same_flags}
+use Rattle.elements.proofs.Flags.{flag_member, flagged_different, flagged_within, length-flagged, same_flags}
 
 pub offsets_law : (e : Element) → OffsetsLaw e
 offsets_law e = record {
@@ -14,7 +15,7 @@ offsets_law e = record {
       subst (λ q. Near q.0 × Near q.1) (sym p.2) (near_offset_at p.0 (omega (arith, e.square)));
   centre = flag_member e.flags 24 e.centre;
   several = omega (arith, length-flagged 0 e.flags, e.several);
-  few = omega (arith, length-flagged 0 e.flags, count_at_most_length e.flags, e.square);
+  few = omega (arith, length-flagged 0 e.flags, count_by-le-length (λ b. b) e.flags, e.square);
 }
 
 pub same_offsets_same_flags : (e : Element) → SameOffsetsSameFlags e

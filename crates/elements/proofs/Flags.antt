@@ -1,39 +1,20 @@
 -- Flags of the square: how many are set, which offsets they stand for, and what setting one more adds.
 use Rattle.std.proofs.Common.{◌≡◌, ℕ, zero, suc, ◌+◌, ◌-◌, ◌<◌, ◌≤◌, Bool, true, false, cond, ◌⊎◌, List, [], ◌∷◌, length, get_or, drop, set, ℤ, sym, refl, ap, ◌∙◌, subst, inl, inr, arith}
 use Rattle.std.proofs.lemmas.List.{at_drop_more, ext_get_or, get_or_past, get_or-set_same, get_or-set_other}
+use Rattle.std.proofs.lemmas.List.Sums.{sum_by-cons, sum_by-take-drop}
 use Rattle.std.proofs.lemmas.Bool.{cases_eq, cases_lt, true≢false}
 use Rattle.elements.specs.Offsets.{◌∈◌, Different, SameMembers, count, flagged, offset_at}
 use Rattle.elements.proofs.Squares.{offset_at_injective}
 
--- No more flags are set than there are.
-pub count_at_most_length : (flags : List Bool) → count flags ≤ length flags
-count_at_most_length [] = omega arith
-count_at_most_length (true ∷ flags) = let h = count_at_most_length flags in omega arith
-count_at_most_length (false ∷ flags) = let h = count_at_most_length flags in omega arith
-
--- A flag that was not set counts one more once it is.
-pub count-set_fresh : (flags : List Bool) (k : ℕ) → k < length flags → get_or flags k false ≡ false
-    → count (set flags k true) ≡ suc (count flags)
-count-set_fresh [] k h e = absurd (omega arith)
-count-set_fresh (true ∷ flags) zero h e = absurd (true≢false e)
-count-set_fresh (false ∷ flags) zero h e = omega arith
-count-set_fresh (true ∷ flags) (suc k) h e = let i = count-set_fresh flags k (omega arith) e in omega arith
-count-set_fresh (false ∷ flags) (suc k) h e = let i = count-set_fresh flags k (omega arith) e in omega arith
-
 -- As many offsets as flags that are set.
 pub length-flagged : (from : ℕ) (flags : List Bool) → length (flagged from flags) ≡ count flags
 length-flagged from [] = refl
-length-flagged from (true ∷ flags) = let h = length-flagged (from + 1) flags in omega arith
-length-flagged from (false ∷ flags) = let h = length-flagged (from + 1) flags in omega arith
+length-flagged from (true ∷ flags) = let h = length-flagged (from + 1) flags in omega (arith, sum_by-cons (λ b. cond b 1 0) true flags)
+length-flagged from (false ∷ flags) = let h = length-flagged (from + 1) flags in omega (arith, sum_by-cons (λ b. cond b 1 0) false flags)
 
 -- The offsets from place k on are some of all.
-count-drop : (k : ℕ) (flags : List Bool) → count (drop k flags) ≤ count flags
-count-drop zero flags = omega arith
-count-drop (suc k) [] = omega arith
-count-drop (suc k) (b ∷ flags) = let h = count-drop k flags in omega arith
-
 pub fewer_flagged : (k : ℕ) (flags : List Bool) → length (flagged k (drop k flags)) ≤ length (flagged 0 flags)
-fewer_flagged k flags = omega (arith, length-flagged k (drop k flags), length-flagged 0 flags, count-drop k flags)
+fewer_flagged k flags = omega (arith, length-flagged k (drop k flags), length-flagged 0 flags, sum_by-take-drop (λ b. cond b 1 0) flags k)
 
 -- The flag before place k tells whether its offset joins those from place k on.
 pub flagged-before : (flags : List Bool) (k : ℕ) → 0 < k → k ≤ length flags

@@ -1,6 +1,7 @@
 -- How a reading comes out: with a fault of the record that it has come to, with a fault of the chain as a whole, or with an element.
-use Rattle.std.proofs.Common.{◌≡◌, ℕ, ◌+◌, Bool, true, false, not, ltb, List, [], ◌∷◌, ◌++◌, length, get_or, ℤ, pos, Some, None, Ok, Err, sym, refl, ap, ◌∙◌, subst, inl, inr, arith}
+use Rattle.std.proofs.Common.{◌≡◌, ℕ, ◌+◌, ◌≤◌, Bool, true, false, not, ltb, List, [], ◌∷◌, ◌++◌, length, get_or, ℤ, pos, Some, None, Ok, Err, sym, refl, ap, ◌∙◌, subst, inl, inr, arith}
 use Rattle.std.proofs.lemmas.List.{length_push, nil_from_length}
+use Rattle.std.proofs.lemmas.Bool.Decides.{nat_tests}
 use Rattle.std.proofs.lemmas.Bool.{cond-true, eq-eqb, ltb-false, ltb-true, not-false, not-true, true≢false}
 use Rattle.elements.specs.declared.cards.CardFault.{CardFault}
 use Rattle.elements.specs.Offsets.{◌∈◌, Near, SameMembers, count, flagged}
@@ -8,7 +9,7 @@ use Rattle.elements.specs.Cards.{card_flags, column_of, end_fault, far, next_of,
 use Rattle.elements.specs.Chains.{Chain, Ends, Leads, Refused, offset_of, visited}
 use Rattle.elements.proofs.Squares.{near_if_not_far, not_far_if_near}
 use Rattle.elements.proofs.Flags.{flag_member, length-flagged, member_flag}
-use Rattle.elements.proofs.Records.{found_by, none_found, tests_passed}
+use Rattle.elements.proofs.Records.{found_by, tests_passed}
 use Rattle.elements.proofs.Readings.{Reading, at_others, counted_n, different_n, leads_n, new_n, onward, same_n, sound_n, there, turn, with_before, with_n}
 use Rattle.elements.proofs.Walks.{no_fault_on_chain}
 
@@ -93,16 +94,16 @@ module _ (card : List ℕ) (n : ℕ) (met : List Bool) (reading : Reading card n
 
     pub accepted : end_fault (record_byte n + 2) (with_n card n met reading) ≡ None → Visits card (with_n card n met reading)
     accepted e =
-        let p = none_found (not (get_or (with_n card n met reading) 24 false)) _ _ e in
-        let q = none_found (ltb (count (with_n card n met reading)) 2) _ _ p.1 in
+        let with_centre : get_or (with_n card n met reading) 24 false ≡ true = grind (arith, nat_tests) in
+        let enough : 2 ≤ count (with_n card n met reading) = grind (arith, nat_tests) in
         let ns = with_before card n met reading faultless in (
           ns,
           record {
             size = reading.comes.size;
             ends = subst (Leads card 1 ns) end (leads_n card n met reading faultless);
             different = different_n card n met reading faultless;
-            centre = centre_visited (not-false _ p.0);
-            several = omega (arith, ltb-false _ _ q.0, counted_n card n met reading faultless);
+            centre = centre_visited with_centre;
+            several = omega (arith, counted_n card n met reading faultless);
           },
           same_n card n met reading faultless,
           length-flagged 0 (with_n card n met reading) ∙ counted_n card n met reading faultless,

@@ -1,13 +1,14 @@
 -- A reading of a card that has come to some record, and how it goes on from there.
 use Rattle.std.proofs.Common.{◌≡◌, ℕ, suc, ◌+◌, ◌-◌, ◌*◌, ◌<◌, ◌≤◌, Bool, true, false, cond, ◌&&◌, eqb, leb, List, [], ◌∷◌, ◌++◌, length, set, replicate, None, Ok, Result, sym, refl, ap, ◌∙◌, subst, inl, inr, arith}
 use Rattle.std.proofs.lemmas.List.{length_push, length-set, map-append}
+use Rattle.std.proofs.lemmas.List.Sums.{count_by-le-length, sum_by-set}
 use Rattle.std.proofs.lemmas.Bool.{and_parts, cond-true, cond-false, ne_eqb, eqb-true, leb-true, true≢false}
 use Rattle.elements.specs.declared.cards.CardFault.{CardFault}
 use Rattle.elements.specs.Offsets.{◌∈◌, Different, SameMembers, count, flagged, offset_at}
 use Rattle.elements.specs.Cards.{card_flags, chain_flags, column_of, end_fault, far, next_of, record_byte, record_fault, record_place, records, row_of, sized, unless}
 use Rattle.elements.specs.Chains.{Comes, Leads, Sound, offset_of, visited}
 use Rattle.elements.proofs.Squares.{near_if_not_far, offset_at_place, place_within}
-use Rattle.elements.proofs.Flags.{count_at_most_length, count-set_fresh, member_flag, member_set, set_member}
+use Rattle.elements.proofs.Flags.{member_flag, member_set, set_member}
 use Rattle.elements.proofs.Members.{different_push, member_push, push_member}
 use Rattle.elements.proofs.Records.{Passed, tests_passed}
 use Rattle.elements.proofs.Walks.{leads_push}
@@ -57,7 +58,7 @@ module _ (card : List ℕ) (n : ℕ) (met : List Bool) (reading : Reading card n
   pub turn : card_flags card ≡ unless (record_fault card n met) onward
   unfolding chain_flags
   turn =
-      let below : count met ≤ 49 = omega (arith, count_at_most_length met, reading.square) in
+      let below : count met ≤ 49 = omega (arith, count_by-le-length (λ b. b) met, reading.square) in
       let more : 50 - count met ≡ suc (49 - count met) = omega arith in
       sym reading.comes_to ∙ ap (λ turns. chain_flags turns card n met) more
 
@@ -81,11 +82,13 @@ module _ (card : List ℕ) (n : ℕ) (met : List Bool) (reading : Reading card n
     passed = tests_passed card n met faultless
 
     one_more : count with_n ≡ suc (count met)
-    one_more = count-set_fresh met (record_place card n) (within passed.0 passed.1) passed.3
+    one_more =
+        let e = rw passed.3 at (sum_by-set (λ b. cond b 1 0) met (record_place card n) true false (within passed.0 passed.1)) in
+        omega arith
 
     pub unset_fall : 49 - count with_n < 49 - count met
     unset_fall =
-        omega (arith, one_more, count_at_most_length with_n, length-set met (record_place card n) true, reading.square)
+        omega (arith, one_more, count_by-le-length (λ b. b) with_n, length-set met (record_place card n) true, reading.square)
 
     -- The records visited, with record n.
     abbrev pub with_before : List ℕ
@@ -137,7 +140,7 @@ module _ (card : List ℕ) (n : ℕ) (met : List Bool) (reading : Reading card n
       same = same_n;
       counted = counted_n;
       comes_to =
-          let more : 50 - count with_n ≡ 49 - count met = omega (arith, one_more, count_at_most_length with_n) in
+          let more : 50 - count with_n ≡ 49 - count met = omega (arith, one_more, count_by-le-length (λ b. b) with_n) in
           let going_on : eqb (next_of card n) 0 ≡ false = ne_eqb (next_of card n) 0 (λ e. omega arith) in
           ap (λ turns. chain_flags turns card (next_of card n) with_n) more
           ∙ sym (turn ∙ ap (λ found. unless found onward) faultless ∙ cond-false _ at_end at_others going_on);

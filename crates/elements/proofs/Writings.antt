@@ -1,7 +1,7 @@
 -- The writing of a card from its last record to its first: the records that stand already make the end of its chain.
 use Rattle.std.proofs.Common.{◌≡◌, ℕ, ◌+◌, ◌-◌, ◌*◌, ◌<◌, ◌≤◌, true, false, cond, ◌⊎◌, List, [], ◌∷◌, length, get_or, drop, ℤ, pos, sym, refl, ap, ◌∙◌, subst, inl, inr, arith, w8, to_z}
 use Rattle.std.proofs.lemmas.List.{at_drop_all, length-map}
-use Rattle.std.proofs.lemmas.Bool.{cond-true, cond-false}
+use Rattle.std.proofs.lemmas.Bool.{cond-true}
 use Rattle.std.proofs.lemmas.Bool.Decides.{nat_tests}
 use Rattle.elements.specs.declared.element.Element.{Element}
 use Rattle.elements.specs.Offsets.{◌∈◌, Different, Near, flagged, offset_at}
@@ -106,13 +106,10 @@ module _ (card changed : List ℕ) (number : ℕ) (first : 1 ≤ number)
     after = λ n m. elim m [ inl e ↦ omega arith | inr k ↦ omega (arith, w.after n k) ];
   }
 
--- The turn of the flag before place i: it is not set and is passed over, or it is set and its record is written.
+-- The turn of the flag before place i: where it is set, its record is written.
 module _ {e : Element} {card : List ℕ} {number next : ℕ} (i : ℕ) (w : Writing e card number next (offsets_from e i)) (more : 0 < i) (within : i ≤ 49) where
   before : offsets_from e (i - 1) ≡ cond (get_or e.flags (i - 1) false) (offset_at (i - 1) ∷ offsets_from e i) (offsets_from e i)
   before = flagged-before e.flags i more (omega (arith, e.square))
-
-  pub passed_over : get_or e.flags (i - 1) false ≡ false → Writing e card number next (offsets_from e (i - 1))
-  passed_over unset = rw (before ∙ cond-false _ _ _ unset) w
 
   module _ (is_set : get_or e.flags (i - 1) false ≡ true) where
     one-before : offsets_from e (i - 1) ≡ offset_at (i - 1) ∷ offsets_from e i

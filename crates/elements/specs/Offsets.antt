@@ -1,5 +1,5 @@
 -- Offsets of the 7 × 7 square about (0, 0), as flags in reading order.
-use Rattle.std.specs.Prelude.{◌≡◌, ℕ, ◌+◌, ◌*◌, ◌/◌, ◌%◌, Bool, cond, ◌⊎◌, List, [], ◌∷◌, ℤ, pos, negsuc, ◌+ℤ◌, ◌-ℤ◌, ◌≤ℤ◌, unsigned_abs}
+use Rattle.std.specs.Prelude.{◌≡◌, count_by, ℕ, ◌+◌, ◌*◌, ◌/◌, ◌%◌, Bool, cond, ◌⊎◌, List, [], ◌∷◌, ℤ, pos, negsuc, ◌+ℤ◌, ◌-ℤ◌, ◌≤ℤ◌, unsigned_abs}
 
 -- A column or a row is −3 to 3.
 abbrev pub Near : ℤ → Type 0
@@ -15,8 +15,7 @@ place_of column row = unsigned_abs (row +ℤ pos 3) * 7 + unsigned_abs (column +
 
 -- How many flags are set.
 abbrev pub count : List Bool → ℕ
-count [] = 0
-count (b ∷ bs) = cond b 1 0 + count bs
+count = count_by (λ b. b)
 
 -- The offsets whose flags are set, from place k of the square on.
 abbrev pub flagged : ℕ → List Bool → List (ℤ × ℤ)

@@ -63,7 +63,7 @@ fn is_sized(card: &[u8]) -> bool
         return false;
     };
     let count = usize::from(*count);
-    1 <= count && count <= 49 && records.len() == 3 * count
+    (1..=49).contains(&count) && records.len() == 3 * count
 }
 
 // The offset of the two bytes that stand at `place` and after it.
@@ -75,11 +75,10 @@ fn read_offset(column: u8, row: u8, place: usize) -> Result<Offset, CardFault>
         (λ fault. far_fault place (to_z w8 column) (to_z w8 row) None ≡ Some fault) }
 {
     let column = column.cast_signed();
-    let Some(offset) = Offset::new(column, row.cast_signed()) else {
-        let near = -3 <= column && column <= 3;
-        return Err(CardFault::Offset(if near { place + 1 } else { place }));
-    };
-    Ok(offset)
+    if !(-3..=3).contains(&column) {
+        return Err(CardFault::Offset(place));
+    }
+    Offset::new(column, row.cast_signed()).ok_or(CardFault::Offset(place + 1))
 }
 
 // Visits a record of the chain: sets the flag of its offset, and tells the record to go on with.

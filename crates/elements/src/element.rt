@@ -19,13 +19,7 @@ pub struct Element {
 pub(crate) fn count_set(flags: &[bool; 49]) -> u8
     ensures { result ≡ count flags.now }
 {
-    let mut set = 0;
-    for flag in flags {
-        if *flag {
-            set += 1;
-        }
-    }
-    set
+    flags.iter().filter(|flag| **flag).count() as u8
 }
 
 impl Element {
@@ -33,10 +27,7 @@ impl Element {
     pub fn holds(&self, index: usize) -> bool
         ensures { result ≡ slice_index_or self.now.flags index false }
     {
-        if index >= 49 {
-            return false;
-        }
-        self.flags[index]
+        self.flags.get(index).is_some_and(|flag| *flag)
     }
 
     // The element of these flags, where (0, 0) and one more offset are among them.

@@ -20,7 +20,7 @@ impl Offset {
             (Near column × Near row → ⊥)
             (λ o. (o.column ≡ column) × (o.row ≡ row)) }
     {
-        if column < -3 || column > 3 || row < -3 || row > 3 {
+        if !(-3..=3).contains(&column) || !(-3..=3).contains(&row) {
             return None;
         }
         Some(Offset { column, row })

@@ -28,9 +28,8 @@ fn write_record(card: &mut [u8], number: u8, index: usize, next: u8)
         → slice_index card.new k ≡ slice_index card.old k }
 {
     let from = 3 * usize::from(number) - 2;
-    card[from] = side_byte(index % 7);
-    card[from + 1] = side_byte(index / 7);
-    card[from + 2] = next;
+    let record = [side_byte(index % 7), side_byte(index / 7), next];
+    card[from..from + 3].copy_from_slice(&record);
 }
 
 /// Writes a card of the element into a list of exactly 1 + 3r bytes, r the number of its offsets: a record for each offset,
@@ -52,6 +51,7 @@ pub fn write_card(element: &Element, card: &mut [u8]) -> Result<(), CardFault>
         return Err(CardFault::Length);
     }
     card[0] = size;
+    // Counted by hand: with (1..=size).rev() zipped to the filtered places the proof did not close, as std has no lemmas on a reversed range.
     let mut number = size;
     let mut next = 0;
     for index in (0..49).rev() {

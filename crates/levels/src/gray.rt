@@ -1,13 +1,11 @@
 // Gray, the level kind of bytes: each byte is its own height.
 ghost use Rattle.std.specs.Prelude.{◌≡◌, ◌≤◌};
-ghost use mathlib.Core.HLevel.{is_prop→PathP};
-ghost use Rattle.std.proofs.Math.Bridge.{le_prop};
 ghost use Rattle.std.proofs.Common.{rules, arith};
 
 use crate::level::Level;
 
 /// A gray level: a byte, which is its own height, so that the top is 255.
-#[derive(Clone, Copy, PartialEq)]
+#[derive(Clone, Copy, PartialEq, PartialOrd)]
 pub struct Gray {
     value: u8,
     ghost fits: { value ≤ 255 },
@@ -27,13 +25,13 @@ impl Level for Gray {
 
     ghost height = { λ g. g.value };
 
-    ghost topped = { first_of (Prim.search rules, Prim.grind (arith, Self.row.coded.inj)) };
+    ghost topped = { Prim.search rules };
 
-    ghost bounded = { first_of (Prim.search rules, Prim.grind (arith, Self.row.coded.inj)) };
+    ghost bounded = { Prim.search rules };
 
-    ghost within = { first_of (Prim.search rules, Prim.grind (arith, Self.row.coded.inj)) };
+    ghost within = { λ g. g.fits };
 
-    ghost distinct = { λ x y e i. record { value = e i; fits = is_prop→PathP (λ k. e k ≤ 255) (λ k. le_prop) x.fits y.fits i } };
+    ghost distinct = { Prim.grind (arith, Self.row.coded.inj) };
 
     fn lowest() -> Gray {
         Gray { value: 0 }
@@ -48,6 +46,6 @@ impl Level for Gray {
     }
 
     fn at_most(self, other: Gray) -> bool {
-        self.value <= other.value
+        self <= other
     }
 }

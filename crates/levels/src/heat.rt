@@ -1,8 +1,6 @@
 // Heat, the level kind of temperatures: blank, or a count of sixteenths of a degree.
 ghost use Rattle.std.specs.Prelude.{◌≡◌, ◌≤◌, pos, ◌+ℤ◌};
 ghost use Rattle.levels.specs.Heat.{heat_count};
-ghost use mathlib.Core.HLevel.{is_prop→PathP};
-ghost use Rattle.std.proofs.Math.Bridge.{le_prop};
 ghost use Rattle.std.proofs.Common.{rules, arith};
 
 use crate::level::Level;
@@ -10,7 +8,7 @@ use crate::level::Level;
 /// A heat level: blank, or a count c of sixteenths of a degree, −32,768 to 32,767.
 /// It is kept as its height, 0 for blank and c + 32,769 for a count, so that two levels are compared as
 /// two numbers and a loop over levels is vectorised.
-#[derive(Clone, Copy, PartialEq)]
+#[derive(Clone, Copy, PartialEq, PartialOrd)]
 pub struct Heat {
     height: u32,
     ghost fits: { height ≤ 65536 },
@@ -49,13 +47,13 @@ impl Level for Heat {
 
     ghost height = { λ h. h.height };
 
-    ghost topped = { first_of (Prim.search rules, Prim.grind (arith, Self.row.coded.inj)) };
+    ghost topped = { Prim.search rules };
 
-    ghost bounded = { first_of (Prim.search rules, Prim.grind (arith, Self.row.coded.inj)) };
+    ghost bounded = { Prim.search rules };
 
-    ghost within = { first_of (Prim.search rules, Prim.grind (arith, Self.row.coded.inj)) };
+    ghost within = { λ h. h.fits };
 
-    ghost distinct = { λ x y e i. record { height = e i; fits = is_prop→PathP (λ k. e k ≤ 65536) (λ k. le_prop) x.fits y.fits i } };
+    ghost distinct = { Prim.grind (arith, Self.row.coded.inj) };
 
     fn lowest() -> Heat {
         Heat::blank()
@@ -69,8 +67,7 @@ impl Level for Heat {
         self.height
     }
 
-    // Compared as signed numbers, which vectors of baseline x86-64 do in one step.
     fn at_most(self, other: Heat) -> bool {
-        self.height as i32 <= other.height as i32
+        self <= other
     }
 }

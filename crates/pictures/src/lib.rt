@@ -2,13 +2,14 @@
 #![tactic(auto)]
 
 ghost use Rattle.std.specs.Prelude.{◌≡◌, ◌≤◌, [], ◌∷◌, length, IfOk, Ok, Err, MatchResult};
+ghost use Rattle.pictures.specs.declared.PictureFault.TheVariants.{Header};
 ghost use Rattle.pictures.specs.Headers.{height_at_lem, picture_fault_number, picture_fault_place, Fills};
 ghost use Rattle.pictures.specs.Reading.{read, sized, ScansAs, ReadsBackPictures, ReadsOnlyPictures, RefusesWhatIsWrong};
 
-use text::{Misfit, fixed, number};
+use text::{Misfit, Scanner};
 
 /// The sides of a picture, and the place of its first cell in the file.
-#[derive(Clone, Copy)]
+#[derive(Clone, Copy, Debug, PartialEq, Eq)]
 pub struct Picture {
     pub width: usize,
     pub height: usize,
@@ -16,7 +17,7 @@ pub struct Picture {
 }
 
 /// Why a file is refused, with the place of the byte in question, from 0.
-#[derive(Clone, Copy)]
+#[derive(Clone, Copy, Debug, PartialEq, Eq)]
 pub enum PictureFault {
     /// 19: the header is not of the form, at its first misfit, or at the file's end where it ends inside the header.
     Header(usize),
@@ -43,10 +44,17 @@ impl PictureFault {
         ensures { result ≡ picture_fault_place self }
     {
         match self {
-            PictureFault::Header(place) => place,
-            PictureFault::Side(place) => place,
-            PictureFault::Length(place) => place,
+            PictureFault::Header(place) | PictureFault::Side(place) | PictureFault::Length(place) =>
+                place,
         }
+    }
+}
+
+impl From<Misfit> for PictureFault {
+    ghost from_gives = { λ misfit fault. fault ≡ Header misfit.place };
+
+    fn from(misfit: Misfit) -> PictureFault {
+        PictureFault::Header(misfit.place)
     }
 }
 
@@ -77,10 +85,8 @@ pub fn read_picture(bytes: &[u8]) -> Result<Picture, PictureFault>
     ensures only { ReadsOnlyPictures }
     ensures wrong { RefusesWhatIsWrong }
 {
-    match read_header(bytes) {
-        Ok(sides) => check_size(sides, bytes.len()),
-        Err(misfit) => Err(PictureFault::Header(misfit.place)),
-    }
+    let sides = read_header(bytes)?;
+    check_size(sides, bytes)
 }
 
 // The sides in the header that the file starts with.
@@ -88,23 +94,25 @@ fn read_header(bytes: &[u8]) -> Result<Sides, Misfit>
     ensures answers { MatchResult result (λ s. ScansAs bytes.now (Ok (record { numbers = s.width ∷ s.height ∷ []; end = s.start }))) (λ misfit. ScansAs bytes.now (Err misfit)) }
     ensures within { IfOk result (λ s. (s.height_at ≡ height_at_lem s.width) × (s.start ≤ length bytes.now)) }
 {
-    let width_at = fixed(bytes, 0, b"P5\n")?;
-    let width = number(bytes, width_at, 1)?;
-    let height_at = fixed(bytes, width.end, b" ")?;
-    let height = number(bytes, height_at, 1)?;
-    let start = fixed(bytes, height.end, b"\n255\n")?;
+    let mut scanner = Scanner::new(bytes);
+    scanner.fixed(b"P5\n")?;
+    let width = scanner.number(1)?;
+    scanner.fixed(b" ")?;
+    let height_at = scanner.at;
+    let height = scanner.number(1)?;
+    scanner.fixed(b"\n255\n")?;
     Ok(Sides {
-        width: width.value,
-        height: height.value,
+        width,
+        height,
         height_at,
-        start,
+        start: scanner.at,
     })
 }
 
-// The picture of these sides, in a file of `len` bytes.
-fn check_size(sides: Sides, len: usize) -> Result<Picture, PictureFault>
-    requires { (sides.height_at ≡ height_at_lem sides.width) × (sides.start ≤ len) }
-    ensures { result ≡ sized sides.width sides.height sides.start len }
+// The picture of these sides, in this file.
+fn check_size(sides: Sides, bytes: &[u8]) -> Result<Picture, PictureFault>
+    requires { (sides.height_at ≡ height_at_lem sides.width) × (sides.start ≤ length bytes.now) }
+    ensures { result ≡ sized sides.width sides.height sides.start (length bytes.now) }
 {
     if sides.width > LARGEST_SIDE {
         return Err(PictureFault::Side(WIDTH_AT));
@@ -114,12 +122,9 @@ fn check_size(sides: Sides, len: usize) -> Result<Picture, PictureFault>
     }
     let width = usize::from(sides.width);
     let height = usize::from(sides.height);
-    let cells = width * height;
-    if len - sides.start < cells {
-        return Err(PictureFault::Length(len));
-    }
-    if len - sides.start > cells {
-        return Err(PictureFault::Length(sides.start + cells));
+    let end = sides.start + width * height;
+    if bytes.len() != end {
+        return Err(PictureFault::Length(bytes.len().min(end)));
     }
     Ok(Picture {
         width,

@@ -13,20 +13,16 @@ const BUILT_IN: [(u32, u64, usize); 4] = [
 
 // The places of an element's offsets, as bits.
 fn places(element: &Element) -> u64 {
-    let mut places = 0;
-    for index in 0..64 {
-        if element.holds(index) {
-            places |= 1 << index;
-        }
-    }
-    places
+    (0..64)
+        .filter(|index| element.holds(*index))
+        .fold(0, |places, index| places | 1 << index)
 }
 
-// The number and the byte of a card's fault, or 0, 0 and the places of its offsets.
-fn outcome(card: &[u8]) -> (u32, usize, u64) {
+// The places of the offsets of a card's element, or the number and the byte of its fault.
+fn outcome(card: &[u8]) -> Result<u64, (u32, usize)> {
     match read_card(card) {
-        Err(fault) => (fault.number(), fault.place(), 0),
-        Ok(element) => (0, 0, places(&element)),
+        Ok(element) => Ok(places(&element)),
+        Err(fault) => Err((fault.number(), fault.place())),
     }
 }
 
@@ -34,11 +30,14 @@ fn outcome(card: &[u8]) -> (u32, usize, u64) {
 fn whole_square() -> [u8; 148] {
     let mut card = [0; 148];
     card[0] = 49;
-    for index in 0..49u8 {
-        let from = 3 * index as usize + 1;
-        card[from] = (index % 7).wrapping_sub(3);
-        card[from + 1] = (index / 7).wrapping_sub(3);
-        card[from + 2] = if index < 48 { index + 2 } else { 0 };
+    let (records, _) = card[1..].as_chunks_mut();
+    for (index, record) in (0..49u8).zip(records) {
+        let next = if index < 48 { index + 2 } else { 0 };
+        *record = [
+            (index % 7).wrapping_sub(3),
+            (index / 7).wrapping_sub(3),
+            next,
+        ];
     }
     card
 }
@@ -46,36 +45,33 @@ fn whole_square() -> [u8; 148] {
 #[test]
 fn cards_tell_an_element_or_their_first_fault(rt: HostRuntime) {
     let centre = 1 << 24;
-    let table: [(&[u8], (u32, usize, u64)); 21] = [
-        (&[], (12, 0, 0)),
-        (&[0], (12, 0, 0)),
-        (&[1, 0, 0], (12, 0, 0)),
-        (&[1, 0, 0, 0, 0], (12, 0, 0)),
-        (&[50; 151], (12, 0, 0)),
-        (&[2, 252, 0, 2, 0, 0, 0], (13, 1, 0)),
-        (&[2, 0, 0, 2, 4, 4, 3], (13, 4, 0)),
-        (&[2, 0, 0, 2, 3, 4, 3], (13, 5, 0)),
-        (&[2, 0, 0, 2, 253, 252, 0], (13, 5, 0)),
-        (&[2, 0, 0, 3, 1, 0, 0], (14, 3, 0)),
-        (&[2, 0, 0, 2, 0, 0, 3], (14, 6, 0)),
-        (&[1, 0, 0, 1], (15, 1, 0)),
-        (&[2, 0, 0, 2, 0, 0, 0], (15, 4, 0)),
-        (&[3, 0, 0, 2, 1, 0, 3, 2, 0, 2], (15, 4, 0)),
-        (&[1, 1, 0, 0], (16, 3, 0)),
-        (&[2, 1, 0, 2, 2, 0, 0], (16, 6, 0)),
-        (&[1, 0, 0, 0], (17, 3, 0)),
-        (&[2, 0, 0, 0, 1, 0, 0], (17, 3, 0)),
-        (&[2, 0, 0, 2, 1, 0, 0], (0, 0, centre | 1 << 25)),
-        (
-            &[3, 0, 0, 3, 99, 99, 99, 253, 3, 0],
-            (0, 0, centre | 1 << 42),
-        ),
-        (&[2, 3, 253, 2, 0, 0, 0], (0, 0, centre | 1 << 6)),
+    let table: [(&[u8], Result<u64, (u32, usize)>); 21] = [
+        (&[], Err((12, 0))),
+        (&[0], Err((12, 0))),
+        (&[1, 0, 0], Err((12, 0))),
+        (&[1, 0, 0, 0, 0], Err((12, 0))),
+        (&[50; 151], Err((12, 0))),
+        (&[2, 252, 0, 2, 0, 0, 0], Err((13, 1))),
+        (&[2, 0, 0, 2, 4, 4, 3], Err((13, 4))),
+        (&[2, 0, 0, 2, 3, 4, 3], Err((13, 5))),
+        (&[2, 0, 0, 2, 253, 252, 0], Err((13, 5))),
+        (&[2, 0, 0, 3, 1, 0, 0], Err((14, 3))),
+        (&[2, 0, 0, 2, 0, 0, 3], Err((14, 6))),
+        (&[1, 0, 0, 1], Err((15, 1))),
+        (&[2, 0, 0, 2, 0, 0, 0], Err((15, 4))),
+        (&[3, 0, 0, 2, 1, 0, 3, 2, 0, 2], Err((15, 4))),
+        (&[1, 1, 0, 0], Err((16, 3))),
+        (&[2, 1, 0, 2, 2, 0, 0], Err((16, 6))),
+        (&[1, 0, 0, 0], Err((17, 3))),
+        (&[2, 0, 0, 0, 1, 0, 0], Err((17, 3))),
+        (&[2, 0, 0, 2, 1, 0, 0], Ok(centre | 1 << 25)),
+        (&[3, 0, 0, 3, 99, 99, 99, 253, 3, 0], Ok(centre | 1 << 42)),
+        (&[2, 3, 253, 2, 0, 0, 0], Ok(centre | 1 << 6)),
     ];
     for (card, expected) in table {
         assert_eq!(rt; outcome(card), expected);
     }
-    assert_eq!(rt; outcome(&whole_square()), (0, 0, (1 << 49) - 1));
+    assert_eq!(rt; outcome(&whole_square()), Ok((1 << 49) - 1));
 }
 
 // Writes the element's card into lists of 0 to 149 bytes: only one of `right` bytes takes it, and tells the same element.
@@ -83,16 +79,13 @@ fn check_written(rt: &impl Abort, element: &Element, right: usize) {
     for len in 0..150 {
         let mut bytes = [255; 150];
         let card = &mut bytes[0..len];
-        match write_card(element, card) {
-            Ok(()) => {
-                assert_eq!(rt; len, right);
-                assert_eq!(rt; outcome(card), (0, 0, places(element)));
-            }
-            Err(fault) => {
-                assert_ne!(rt; len, right);
-                assert_eq!(rt; (fault.number(), fault.place()), (12, 0));
-                assert_eq!(rt; bytes, [255; 150]);
-            }
+        let written = write_card(element, card).map_err(|fault| (fault.number(), fault.place()));
+        if len == right {
+            assert_eq!(rt; written, Ok(()));
+            assert_eq!(rt; outcome(card), Ok(places(element)));
+        } else {
+            assert_eq!(rt; written, Err((12, 0)));
+            assert_eq!(rt; bytes, [255; 150]);
         }
     }
 }
@@ -107,10 +100,8 @@ fn elements_are_built_in_and_read_back_as_they_were_written(rt: HostRuntime) -> 
         check_written(&rt, &element, right);
     }
     for number in [0, 5, u32::MAX] {
-        let Err(fault) = Element::built_in(number) else {
-            return Err(Fail::new("a number of no built-in element is accepted"));
-        };
-        assert_eq!(rt; fault.number(), 10);
+        let refused = Element::built_in(number).err();
+        assert_eq!(rt; refused.map(|fault| fault.number()), Some(10));
     }
     let Ok(square) = read_card(&whole_square()) else {
         return Err(Fail::new("the card of the whole square is refused"));

@@ -1,5 +1,5 @@
 -- Readings and the heights that they stand for, one by one and in lists.
-use Rattle.std.proofs.Common.{◌≡◌, ℕ, zero, suc, ◌≤◌, List, [], ◌∷◌, ◌++◌, map, pos, ◌-ℤ◌, sym, refl, ◌∙◌, arith}
+use Rattle.std.proofs.Common.{◌≡◌, ℕ, zero, suc, ◌≤◌, List, [], ◌∷◌, map, pos, ◌-ℤ◌, sym, refl, ◌∙◌, arith}
 use lib.Ieee.{Float}
 use lib.IntN.{ -ℤ-+ℤ_cancel}
 use Rattle.std.proofs.lemmas.Int.{ints}
@@ -28,13 +28,6 @@ reads_all_once [] [] (k ∷ ks) p q = absurd q
 reads_all_once (r ∷ rs) [] ks p q = absurd p
 reads_all_once (r ∷ rs) (h ∷ hs) [] p q = absurd q
 reads_all_once (r ∷ rs) (h ∷ hs) (k ∷ ks) p q = λ i. reads_once r k h q.0 p.0 i ∷ reads_all_once rs hs ks p.1 q.1 i
-
--- One more reading, and the height of its level.
-pub reads_all_push : (rs : List Reading) (hs : List ℕ) (r : Reading) (h : ℕ) → ReadsAll rs hs → Reads r h → ReadsAll (rs ++ r ∷ []) (hs ++ h ∷ [])
-reads_all_push [] [] r h p q = (q, tt)
-reads_all_push [] (k ∷ ks) r h p q = absurd p
-reads_all_push (s ∷ rs) [] r h p q = absurd p
-reads_all_push (s ∷ rs) (k ∷ ks) r h p q = (p.0, reads_all_push rs ks r h p.1 q)
 
 -- The reading by which a level is told stands for that level.
 told_reads : (h : ℕ) → h ≤ 65536 → Reads (told_as h) h

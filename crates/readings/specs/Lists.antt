@@ -1,6 +1,6 @@
 -- Lists of readings, and the lists of heights that they stand for. Assumes nothing.
-use Rattle.std.specs.Prelude.{◌≡◌, ℕ, ◌<◌, ◌≤◌, List, [], ◌∷◌, map, length, take, slice_index_or}
-use Rattle.std.specs.List.{AllByRecursion}
+use Rattle.std.specs.Prelude.{◌≡◌, ℕ, ◌<◌, ◌≤◌, List, map, length, take, slice_index_or}
+use Rattle.std.specs.List.{AllByRecursion, AllZip}
 use Rattle.levels.specs.declared.heat.Heat.{Heat}
 use Rattle.readings.specs.declared.fault.ReadingFault.{ReadingFault}
 use Rattle.readings.specs.declared.fault.ReadingFault.TheVariants.{Lengths, Unreadable}
@@ -14,10 +14,7 @@ heat_height h = h.height
 
 -- as many readings as heights, and each reading stands for the level of its height
 abbrev pub ReadsAll : List Reading → List ℕ → Type 0
-ReadsAll [] [] = Unit {0}
-ReadsAll [] (h ∷ hs) = ⊥
-ReadsAll (r ∷ rs) [] = ⊥
-ReadsAll (r ∷ rs) (h ∷ hs) = Reads r h × ReadsAll rs hs
+ReadsAll = AllZip Reads
 
 -- readings are accepted for n levels where there are as many, and each reading stands for a level
 abbrev pub Accepted : List Reading → ℕ → Type 0

@@ -1,5 +1,5 @@
 // Lists of readings, and lists of the heat levels that they stand for.
-ghost use Rattle.std.specs.Prelude.{◌≡◌, map, length, MatchResult, ◌≢◌};
+ghost use Rattle.std.specs.Prelude.{◌≡◌, map, length, MatchOption, MatchResult, ◌≢◌};
 ghost use Rattle.readings.specs.Lists.{Accepted, ReadsAll, ReadsBack, Refused, heat_height};
 ghost use Rattle.readings.specs.Readings.{Readable, told_as};
 ghost use Rattle.std.specs.List.{AllByRecursion};
@@ -8,25 +8,23 @@ use crate::fault::ReadingFault;
 use crate::reading::Reading;
 use levels::Heat;
 
-// Refuses the first reading that stands for no level.
-fn check_readings(readings: &[Reading]) -> Result<(), ReadingFault>
-    ensures { MatchResult result
-        (λ _. AllByRecursion Readable readings.now)
-        (λ fault. Refused readings.now (length readings.now) fault) }
+// The index of the first reading that stands for no level, or nothing where each stands for one.
+fn first_unreadable(readings: &[Reading]) -> Option<usize>
+    ensures { MatchOption result
+        (AllByRecursion Readable readings.now)
+        (λ index. Refused readings.now (length readings.now) (ReadingFault.Unreadable index)) }
 {
-    for (index, reading) in readings.iter().enumerate() {
-        if reading.level().is_none() {
-            return Err(ReadingFault::Unreadable(index));
-        }
-    }
-    Ok(())
+    readings
+        .iter()
+        .position(|reading| reading.level().is_none())
 }
 
-// Writes the levels that readings stand for.
+// Writes the levels that readings stand for. All readings were checked before, so that the levels stay where one is refused.
 fn write_levels(readings: &[Reading], levels: &mut [Heat])
     requires { (length readings.now ≡ length levels.old) × (AllByRecursion Readable readings.now) }
     ensures { ReadsAll readings.now (map heat_height levels.new) }
 {
+    // By index, since after a zip with iter_mut a proof knows of a list no more than its length.
     for (index, reading) in readings.iter().enumerate() {
         let Some(level) = reading.level() else {
             unreachable()
@@ -51,7 +49,9 @@ pub fn read_heat(readings: &[Reading], levels: &mut [Heat]) -> Result<(), Readin
     if readings.len() != levels.len() {
         return Err(ReadingFault::Lengths);
     }
-    check_readings(readings)?;
+    if let Some(index) = first_unreadable(readings) {
+        return Err(ReadingFault::Unreadable(index));
+    }
     write_levels(readings, levels);
     Ok(())
 }
@@ -61,8 +61,9 @@ fn write_readings(levels: &[Heat], readings: &mut [Reading])
     requires { length levels.now ≡ length readings.old }
     ensures { readings.new ≡ map told_as (map heat_height levels.now) }
 {
+    // By index, since after a zip with iter_mut a proof knows of a list no more than its length.
     for (index, level) in levels.iter().enumerate() {
-        readings[index] = Reading::of_level(*level);
+        readings[index] = Reading::from(*level);
     }
 }
 
@@ -70,6 +71,7 @@ fn write_readings(levels: &[Heat], readings: &mut [Reading])
 /// Read again, they give the same levels.
 ///
 /// Refuses with `Lengths` (3) where there are not as many readings as levels; the readings then stay as they were.
+#[tactic(auto, using(crate::proofs::Heights::reads_back))]
 pub fn tell_heat(levels: &[Heat], readings: &mut [Reading]) -> Result<(), ReadingFault>
     ensures answers { MatchResult result
         (λ _. length levels.now ≡ length readings.old)

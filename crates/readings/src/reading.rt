@@ -24,16 +24,17 @@ impl Reading {
         match self {
             Reading::Dead => Some(Heat::blank()),
             Reading::Degrees(degrees) | Reading::Beyond(degrees) => {
-                let count = count_of(degrees)?;
-                Some(Heat::of_count(count))
+                count_of(degrees).map(Heat::of_count)
             }
         }
     }
+}
 
-    // The reading by which a level is told.
-    pub(crate) fn of_level(level: Heat) -> Reading
-        ensures { result ≡ told_as level.height }
-    {
+impl From<Heat> for Reading {
+    ghost from_gives = { λ level r. r ≡ told_as level.height };
+
+    /// The reading by which a level is told.
+    fn from(level: Heat) -> Reading {
         match level.count() {
             None => Reading::Dead,
             Some(count) => Reading::Degrees(degrees_of(count)),

@@ -6,7 +6,7 @@ use Rattle.std.proofs.lemmas.Bool.{cases_Bool, cond-true, cond-false, leb-true, 
 use Rattle.std.proofs.lemmas.Bool.Decides.{nat_tests}
 use Rattle.std.specs.Char.{is_ascii_digit}
 use Rattle.text.specs.declared.Misfit.{Misfit}
-use Rattle.text.specs.declared.Numeral.{Numeral}
+use Rattle.text.specs.Pieces.{Numeral}
 use Rattle.text.specs.Misfits.{FirstMisfit}
 use Rattle.text.specs.Pieces.{stands, fixed_at, figures, front_value, number_at, refused_at}
 use Rattle.text.specs.Forms.{Form, anything, nothing, fixed, number, written, Takes, OfForm, Reading, before, scan, FixedThere, TellsFixed}

@@ -1,4 +1,5 @@
 -- The laws of reading a text.
 pub mod Misfits
+pub mod Pieces
 pub mod Numbers
 pub mod Forms

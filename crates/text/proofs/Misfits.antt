@@ -1,5 +1,6 @@
 -- How the first misfit of a text is found: at its first byte, or after a front that all lawful texts in question share.
-use Rattle.std.proofs.Common.{◌≡◌, ℕ, suc, ◌+◌, ◌<◌, List, [], ◌∷◌, ◌++◌, length, take, sym, refl, ap, ◌∙◌, subst, inl, inr, append_assoc, add_assoc, add-one, arith}
+use Rattle.std.proofs.Common.{◌≡◌, ℕ, ◌+◌, ◌<◌, List, [], ◌∷◌, ◌++◌, length, take, sym, refl, ap, ◌∙◌, subst, inl, inr, append_assoc, add_assoc, add-one, arith}
+use Rattle.std.proofs.Math.Seq.{take-append-add}
 use Rattle.std.proofs.lemmas.List.{length-append}
 use Rattle.text.specs.Misfits.{FirstMisfit}
 
@@ -15,11 +16,6 @@ misfit_at_once Lawful some lawful (c ∷ text) apart =
       misfit = inr (omega arith, λ b. apart (c ∷ b.0) b.1 refl);
     }
 
-take_front : (front rest : List ℕ) (k : ℕ) → take (length front + k) (front ++ rest) ≡ front ++ take k rest
-take_front [] rest k = ap (λ (i : ℕ). take i rest) (omega arith)
-take_front (c ∷ front) rest k =
-    ap (λ (i : ℕ). take i (c ∷ (front ++ rest))) {y = suc (length front + k)} (omega arith) ∙ ap (λ (t : List ℕ). c ∷ t) (take_front front rest k)
-
 -- the front of a text, up to its first misfit and more, starts as the text does
 same_start : (text more : List ℕ) (k : ℕ) → k < length text → take 1 (take (k + 1) text ++ more) ≡ take 1 text
 same_start [] more k h = absurd (omega arith)
@@ -33,7 +29,7 @@ pub misfit_after : (Inner Outer : List ℕ → Type 0) (front rest : List ℕ) (
 misfit_after Inner Outer front rest k into back found =
     record {
       unlawful = λ h. found.unlawful (back rest refl h);
-      begins = (found.begins.0, rw (take_front front rest k, append_assoc) (into _ found.begins.1));
+      begins = (found.begins.0, rw (take-append-add front rest k, append_assoc) (into _ found.begins.1));
       misfit =
           elim found.misfit [
             | inl e ↦ inl (ap (λ (i : ℕ). length front + i) e ∙ sym (length-append front rest))
@@ -46,4 +42,4 @@ misfit_after Inner Outer front rest k into back found =
     }
   where
     further : (more : List ℕ) → take (length front + k + 1) (front ++ rest) ++ more ≡ front ++ (take (k + 1) rest ++ more)
-    further more = rw (add_assoc, take_front front rest (k + 1), append_assoc)
+    further more = rw (add_assoc, take-append-add front rest (k + 1), append_assoc)

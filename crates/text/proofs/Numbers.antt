@@ -17,13 +17,13 @@ within_digit : (c : ℕ) → IsInRange 48 57 c → is_ascii_digit c ≡ true
 within_digit c h = grind (arith, nat_tests)
 
 -- a run of digits ends at its room, or before a byte that is no digit
-record Run (room : ℕ) (text : List ℕ) (count : ℕ) : Type 0 where
-  most : count ≤ room
-  short : count ≤ length text
-  digits : AllDigits 10 (take count text)
-  stops : count < room → is_ascii_digit (get_or text count 0) ≡ false
+pub record Run (room : ℕ) (text : List ℕ) (count : ℕ) : Type 0 where
+  pub most : count ≤ room
+  pub short : count ≤ length text
+  pub digits : AllDigits 10 (take count text)
+  pub stops : count < room → is_ascii_digit (get_or text count 0) ≡ false
 
-runs : (room : ℕ) (text : List ℕ) → Run room text (run room text)
+pub runs : (room : ℕ) (text : List ℕ) → Run room text (run room text)
 runs zero text = record { most = omega arith; short = omega arith; digits = tt; stops = λ h. absurd (omega (arith, h)) }
 runs (suc room) [] = record { most = omega arith; short = omega arith; digits = tt; stops = λ h. refl }
 runs (suc room) (c ∷ text) =

@@ -3,7 +3,20 @@ use Rattle.std.specs.Prelude.{◌≡◌, ℕ, zero, suc, ◌+◌, ◌≤◌, Boo
 use Rattle.std.specs.Str.Parse.{digits_value}
 use Rattle.std.specs.Char.{is_ascii_digit}
 use Rattle.text.specs.declared.Misfit.{Misfit}
-use Rattle.text.specs.declared.Numeral.{Numeral}
+
+-- a number that stands in a text, and the place after its last digit
+pub record Numeral : Type 0 where
+  pub value : ℕ
+  pub end : ℕ
+
+-- what was read up to the place `end`: the place alone, or a number and the place
+abbrev pub reached : {X : Type 0} → ℕ → Result X Misfit → Result ℕ Misfit
+reached end (Ok _) = Ok end
+reached end (Err misfit) = Err misfit
+
+abbrev pub with_end : ℕ → Result ℕ Misfit → Result Numeral Misfit
+with_end end (Ok value) = Ok (record { value = value; end = end })
+with_end end (Err misfit) = Err misfit
 
 -- refused at a place
 abbrev pub refused_at : {X : Type 0} → ℕ → Result X Misfit

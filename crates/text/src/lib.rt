@@ -1,10 +1,11 @@
 //! What the readers of job lines and of picture headers share: fixed bytes and numbers in text.
 #![tactic(auto)]
 
-ghost use Rattle.std.specs.Prelude.{◌≡◌, ◌<◌, ◌≤◌, length, take};
+ghost use Rattle.std.specs.Prelude.{◌≡◌, ◌<◌, ◌≤◌, ◌==◌, length, take, drop, OnErr};
+ghost use Rattle.std.specs.List.{common_prefix_len};
 ghost use Rattle.std.specs.Str.Parse.{AllDigits, digits_value};
 ghost use Rattle.text.specs.Forms.{TellsFixed};
-ghost use Rattle.text.specs.Pieces.{figures, fixed_at, number_at, TellsNumber};
+ghost use Rattle.text.specs.Pieces.{figures, fixed_at, number_at, reached, with_end, TellsNumber};
 
 /// The place of the first byte that does not fit, or the text's length where it ends too early.
 #[derive(Clone, Copy)]
@@ -12,51 +13,76 @@ pub struct Misfit {
     pub place: usize,
 }
 
-/// A number that stands in a text, and the place after its last digit.
+/// A text, and the place up to which it has been read.
 #[derive(Clone, Copy)]
-pub struct Numeral {
-    pub value: u16,
-    pub end: usize,
+pub struct Scanner<'t> {
+    pub bytes: &'t [u8],
+    pub at: usize,
+    ghost within: { at ≤ length bytes.now },
 }
 
-/// The place after the bytes `wanted`, which have to stand at `at`.
-/// Refuses a text in which they do not, at the first byte that is another, or at its end.
-pub fn fixed(bytes: &[u8], at: usize, wanted: &[u8]) -> Result<usize, Misfit>
-    ensures answers { result ≡ fixed_at wanted.now bytes.now at }
-    ensures tells { at ≤ length bytes.now → TellsFixed wanted.now bytes.now at result }
-{
-    let mut place = at;
-    for byte in wanted {
-        if place >= bytes.len() || bytes[place] != *byte {
-            return Err(Misfit { place });
+impl<'t> Scanner<'t> {
+    /// A text of which nothing has been read.
+    pub fn new(bytes: &'t [u8]) -> Self
+        ensures { (result.bytes.now ≡ bytes.now) × (result.at ≡ 0) }
+    {
+        Scanner { bytes, at: 0 }
+    }
+
+    /// Reads the bytes `wanted`.
+    /// Refuses a text in which they do not stand next, at the first byte that is another, or at its end.
+    pub fn fixed(&mut self, wanted: &[u8]) -> Result<(), Misfit>
+        ensures answers { reached self.new.at result ≡ fixed_at wanted.now self.old.bytes.now self.old.at }
+        ensures tells { TellsFixed wanted.now self.old.bytes.now self.old.at (reached self.new.at result) }
+        ensures same_text { self.new.bytes.now ≡ self.old.bytes.now }
+        ensures err { OnErr result (self.new.at ≡ self.old.at) }
+    {
+        let matching = count_matching(wanted, self.rest());
+        if matching < wanted.len() {
+            return Err(Misfit {
+                place: self.at + matching,
+            });
         }
-        place += 1;
+        self.at += matching;
+        Ok(())
     }
-    Ok(place)
+
+    /// Reads a number: as many digits as stand next, at most four, or a 0 alone, so that it has no leading zero.
+    /// Refuses a text with no digit next, or with a number below `least`, at that place.
+    pub fn number(&mut self, least: u16) -> Result<u16, Misfit>
+        ensures answers { with_end self.new.at result ≡ number_at least self.old.bytes.now self.old.at }
+        ensures tells { TellsNumber least self.old.bytes.now self.old.at (with_end self.new.at result) }
+        ensures same_text { self.new.bytes.now ≡ self.old.bytes.now }
+        ensures err { OnErr result (self.new.at ≡ self.old.at) }
+    {
+        let text = self.rest();
+        let count = count_figures(text);
+        let value = read_digits(&text[..count]);
+        if count == 0 || value < least {
+            return Err(Misfit { place: self.at });
+        }
+        self.at += count;
+        Ok(value)
+    }
+
+    // What has not been read yet.
+    fn rest(&self) -> &'t [u8]
+        ensures { result.now ≡ drop self.now.at self.now.bytes.now }
+    {
+        &self.bytes[self.at..]
+    }
 }
 
-/// The number at `at`: as many digits as stand there, at most four, or a 0 alone, so that it has no leading zero.
-/// Refuses a text with no digit at `at`, or with a number below `least`, at that place.
-pub fn number(bytes: &[u8], at: usize, least: u16) -> Result<Numeral, Misfit>
-    ensures answers { result ≡ number_at least bytes.now at }
-    ensures tells { TellsNumber least bytes.now at result }
+// How many of the bytes `wanted` the text starts with.
+fn count_matching(wanted: &[u8], text: &[u8]) -> usize
+    ensures value { result ≡ common_prefix_len (λ w b. w == b) wanted.now text.now }
+    ensures within { (result ≤ length wanted.now) × (result ≤ length text.now) }
 {
-    if at >= bytes.len() {
-        return Err(Misfit { place: at });
-    }
-    let text = &bytes[at..];
-    let count = count_figures(text);
-    if count == 0 {
-        return Err(Misfit { place: at });
-    }
-    let value = read_digits(&text[..count]);
-    if value < least {
-        return Err(Misfit { place: at });
-    }
-    Ok(Numeral {
-        value,
-        end: at + count,
-    })
+    wanted
+        .iter()
+        .zip(text)
+        .take_while(|(wanted, byte)| wanted == byte)
+        .count()
 }
 
 // How many bytes the number has that `text` starts with: 0 where it starts with no digit.
@@ -65,14 +91,13 @@ fn count_figures(text: &[u8]) -> usize
     ensures within { (result ≤ length text.now) × (result ≤ 4) }
     ensures digits { AllDigits 10 (take result text.now) }
 {
-    if let [b'0', ..] = text {
+    if text.starts_with(b"0") {
         return 1;
     }
-    let mut count = 0;
-    while count < text.len() && count < 4 && text[count].is_ascii_digit() {
-        count += 1;
-    }
-    count
+    text.iter()
+        .take(4)
+        .take_while(|byte| byte.is_ascii_digit())
+        .count()
 }
 
 // The number that at most four digits write.

@@ -1,90 +1,39 @@
 -- Each number is read after its blank, and the line ends after the last.
-use Rattle.std.proofs.Common.{◌≡◌, ℕ, suc, ◌+◌, ◌-◌, ◌<◌, ◌≤◌, List, length, take, Ok, Result, sym, ap, ◌∙◌, arith}
-use Rattle.std.proofs.lemmas.List.{length-replicate, length-set, take_all, take_more_set}
+use Rattle.std.proofs.Common.{◌≡◌, [], ◌∷◌, length, Ok, Err, refl, ap, arith}
 use Rattle.std.proofs.lemmas.Result.{err_from_is_err_and}
-use Rattle.std.proofs.lemmas.Bool.{cond-true, cond-false, le-leb, lt-leb}
-use Rattle.text.specs.declared.Misfit.{Misfit}
-use Rattle.text.specs.Forms.{Reading, scan}
-use Rattle.commands.specs.Reading.{arguments}
-use Rattle.commands.proofs.Arguments.{all_before, blank_refused, one_more_before, one_more_read, one_more_refused, read_after, refused_after}
+use Rattle.text.specs.Pieces.{fixed_at, number_at}
+use Rattle.commands.proofs.Arguments.{none_read, refused_at_blank, refused_at_number, one_more_read, refused_after_last, all_read}
 use Rattle.commands.proofs.numbers.Goals as goal
 
--- how the line reads on decides
-decided : (n i : ℕ) (numbers line : List ℕ) (at : ℕ) (r : Result Reading Misfit)
-    → scan (arguments n) line 1 ≡ all_before (take i numbers) (scan (arguments (n - i)) line at) → i < n
-    → scan (arguments (suc (n - (i + 1)))) line at ≡ r → scan (arguments n) line 1 ≡ all_before (take i numbers) r
-decided n i numbers line at r so_far more on =
-    so_far
-    ∙ ap (all_before (take i numbers)) (ap (λ (k : ℕ). scan (arguments k) line at) {y = suc (n - (i + 1))} (omega arith) ∙ on)
+pub loop-number-init : goal.loop-number-init
+loop-number-init g c = (refl, none_read g.row.N c.args.line.now)
 
-pub loop-i-init : goal.loop-i-init
-loop-i-init g c =
-    (length-replicate g.row.N 0, c.requires, ap (λ (k : ℕ). scan (arguments k) c.args.line.now 1) (omega arith))
-
-pub returns-in_err-start : goal.returns-in_err-start
-returns-in_err-start g c =
+pub returns-in_err-fixed-clause-answers : goal.returns-in_err-fixed-clause-answers
+returns-in_err-fixed-clause-answers g c =
     let p = err_from_is_err_and c.from_residual.result c.from_residual.ensures.1 in
-    rw (p.1, p.2)
-    (record {
-      answers =
-          decided g.row.N c.loop-i.i c.loop-i.numbers c.args.line.now c.loop-i.at _ c.loop-i.invariant.2 c.loop-i-test.true
-          (blank_refused _ c.args.line.now c.loop-i.at _ c.in_err-start.ensures.answers)
-          ∙ refused_after (take c.loop-i.i c.loop-i.numbers) _;
-      within = (c.in_err-start.ensures.tells c.loop-i.invariant.1).within;
-    })
+    let blank : Err c.in_err-fixed.field-0.0 ≡ fixed_at (32 ∷ []) c.args.line.now c.loop-number.scanner.at = cc c.in_err-fixed.ensures.answers in
+    rw (p.1, p.2) (refused_at_blank c.loop-number.invariant.1 _ c.loop-number-test.true blank)
 
-pub returns-in_err-read : goal.returns-in_err-read
-returns-in_err-read g c =
-    let p = err_from_is_err_and c.from_residual-in_err-read.result c.from_residual-in_err-read.ensures.1 in
-    rw (p.1, p.2)
-    (record {
-      answers =
-          decided g.row.N c.loop-i.i c.loop-i.numbers c.args.line.now c.loop-i.at _ c.loop-i.invariant.2 c.loop-i-test.true
-          (one_more_refused _ c.args.line.now c.loop-i.at _ _ c.in_ok-start.ensures.answers c.in_err-read.ensures.answers)
-          ∙ refused_after (take c.loop-i.i c.loop-i.numbers) _;
-      within = omega (arith, c.in_err-read.ensures.tells.0, (c.in_ok-start.ensures.tells c.loop-i.invariant.1).within);
-    })
+pub returns-in_err-number-clause-answers : goal.returns-in_err-number-clause-answers
+returns-in_err-number-clause-answers g c =
+    let p = err_from_is_err_and c.from_residual-in_err-number.result c.from_residual-in_err-number.ensures.1 in
+    let blank : Ok c.fixed.new.self.at ≡ fixed_at (32 ∷ []) c.args.line.now c.loop-number.scanner.at = cc c.in_ok-fixed.ensures.answers in
+    let number : Err c.in_err-number.field-0.0 ≡ number_at 0 c.args.line.now c.fixed.new.self.at = cc (c.in_err-number.ensures.answers, c.in_ok-fixed.ensures.same_text) in
+    rw (p.1, p.2) (refused_at_number c.loop-number.invariant.1 _ _ c.loop-number-test.true blank number)
 
-pub loop-i-preserved : goal.loop-i-preserved
-loop-i-preserved g c =
-    let i : ℕ = c.loop-i.i in
-    let n : ℕ = c.in_ok-read.read.value in
-    let room : i < length c.loop-i.numbers = omega (arith, c.loop-i.invariant.0) in (
-      length-set c.loop-i.numbers i n ∙ c.loop-i.invariant.0,
-      c.in_ok-read.ensures.tells.within,
-      decided g.row.N i c.loop-i.numbers c.args.line.now c.loop-i.at _ c.loop-i.invariant.2 c.loop-i-test.true
-          (one_more_read _ c.args.line.now c.loop-i.at _ c.in_ok-read.read
-          c.in_ok-start.ensures.answers c.in_ok-read.ensures.answers)
-          ∙ (sym (one_more_before (take i c.loop-i.numbers) n _)
-          ∙ ap (λ (ns : List ℕ). all_before ns (scan (arguments (g.row.N - (i + 1))) c.args.line.now c.in_ok-read.read.end))
-          (sym (take_more_set c.loop-i.numbers i n room))),
+pub loop-number-preserved : goal.loop-number-preserved
+loop-number-preserved g c =
+    let blank : Ok c.fixed.new.self.at ≡ fixed_at (32 ∷ []) c.args.line.now c.loop-number.scanner.at = cc c.in_ok-fixed.ensures.answers in
+    let number : Ok (record { value = c.in_ok-number.field-0; end = c.number.new.self.at }) ≡ number_at 0 c.args.line.now c.fixed.new.self.at =
+    cc (c.in_ok-number.ensures.answers, c.in_ok-fixed.ensures.same_text) in (
+      cc (c.in_ok-number.ensures.same_text, c.in_ok-fixed.ensures.same_text),
+      one_more_read c.loop-number.invariant.1 _ _ _ c.loop-number-test.true blank number,
     )
 
-all_read : (n i : ℕ) (numbers line : List ℕ) (at : ℕ) (r : Result Reading Misfit)
-    → scan (arguments n) line 1 ≡ all_before (take i numbers) (scan (arguments (n - i)) line at) → length numbers ≡ n → n ≤ i
-    → scan (arguments 0) line at ≡ r → scan (arguments n) line 1 ≡ all_before numbers r
-all_read n i numbers line at r so_far long all on =
-    so_far
-    ∙ (ap (λ (ns : List ℕ). all_before ns (scan (arguments (n - i)) line at)) (take_all i numbers (omega arith))
-    ∙ ap (all_before numbers) (ap (λ (k : ℕ). scan (arguments k) line at) {y = 0} (omega arith) ∙ on))
+pub returns-then-scanner-line-clause-answers : goal.returns-then-scanner-line-clause-answers
+returns-then-scanner-line-clause-answers g c = refused_after_last c.loop-number.invariant.1 c.loop-number-test.false c.if-scanner-line.true
 
-pub returns-then-at-line : goal.returns-then-at-line
-returns-then-at-line g c =
-    record {
-      answers =
-          all_read g.row.N c.loop-i.i c.loop-i.numbers c.args.line.now c.loop-i.at _ c.loop-i.invariant.2 c.loop-i.invariant.0 c.loop-i-test.false
-          (cond-false _ _ _ (lt-leb (length c.args.line.now) c.loop-i.at c.if-at-line.true))
-          ∙ refused_after c.loop-i.numbers _;
-      within = c.loop-i.invariant.1;
-    }
-
-pub returns : goal.returns
-returns g c =
-    let end : c.loop-i.at ≡ length c.args.line.now = omega (arith, c.loop-i.invariant.1) in
-    record {
-      answers =
-          all_read g.row.N c.loop-i.i c.loop-i.numbers c.args.line.now c.loop-i.at _ c.loop-i.invariant.2 c.loop-i.invariant.0 c.loop-i-test.false
-          (cond-true _ _ _ (le-leb (length c.args.line.now) c.loop-i.at c.if-at-line.false))
-          ∙ (read_after c.loop-i.numbers c.loop-i.at ∙ ap (λ (e : ℕ). Ok (record { numbers = c.loop-i.numbers; end = e })) end);
-      within = c.loop-i.invariant.0;
-    }
+pub returns-clause-answers : goal.returns-clause-answers
+returns-clause-answers g c =
+    all_read c.loop-number.invariant.1 c.loop-number-test.false
+    (omega (arith, c.loop-number.scanner.within, ap length c.loop-number.invariant.0))

@@ -1,12 +1,9 @@
 -- What the loop over the numbers keeps.
-use Rattle.std.proofs.Common.{◌≡◌, ◌-◌, ◌≤◌, length, take}
-use Rattle.text.specs.Forms.{scan}
-use Rattle.commands.specs.Reading.{arguments}
-use Rattle.commands.proofs.Arguments.{all_before}
+use Rattle.std.proofs.Common.{◌≡◌}
+use Rattle.commands.proofs.Arguments.{ReadsOn}
 use Rattle.commands.proofs.numbers.Given as goal
 
 -- the numbers so far, and how the line reads on
-abbrev pub invariant-loop-i : goal.invariant-loop-i
-invariant-loop-i g l =
-    (length l.numbers ≡ g.row.N) × (l.at ≤ length l.line)
-    × (scan (arguments g.row.N) l.line 1 ≡ all_before (take l.i l.numbers) (scan (arguments (g.row.N - l.i)) l.line l.at))
+abbrev pub invariant-loop-number : goal.invariant-loop-number
+invariant-loop-number g l =
+    (l.scanner.bytes.now ≡ l.line) × ReadsOn g.row.N l.number-index l.number-items l.line l.scanner.at

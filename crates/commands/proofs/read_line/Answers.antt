@@ -1,13 +1,12 @@
--- Columns count from 1, and the laws hold.
-use Rattle.std.proofs.Common.{ap}
-use Rattle.commands.specs.Reading.{by_column}
+-- The laws of reading a line hold.
 use Rattle.commands.proofs.Laws.{reads_back_lines, reads_only_lines, refuses_lines_at_misfit}
 use Rattle.commands.proofs.read_line.Goals as goal
 
-pub returns-in-Ok : goal.returns-in-Ok
-returns-in-Ok c =
-    record { answers = ap by_column c.in-Ok.ensures.answers; back = reads_back_lines; only = reads_only_lines; misfit = refuses_lines_at_misfit }
+pub returns-clause-back : goal.returns-clause-back
+returns-clause-back c = reads_back_lines
 
-pub returns-in-Err : goal.returns-in-Err
-returns-in-Err c =
-    record { answers = ap by_column c.in-Err.ensures.answers; back = reads_back_lines; only = reads_only_lines; misfit = refuses_lines_at_misfit }
+pub returns-clause-only : goal.returns-clause-only
+returns-clause-only c = reads_only_lines
+
+pub returns-clause-misfit : goal.returns-clause-misfit
+returns-clause-misfit c = refuses_lines_at_misfit

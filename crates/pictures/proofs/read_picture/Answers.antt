@@ -1,28 +1,25 @@
--- The sides of the header are checked, and the laws hold.
-use Rattle.std.proofs.Common.{length, Result, sym, ap, ◌∙◌}
-use Rattle.text.specs.Forms.{Reading}
-use Rattle.text.specs.declared.Misfit.{Misfit}
-use Rattle.pictures.specs.Reading.{pictured}
+-- The laws of reading a picture file hold, and a picture that was read fills its file.
+use Rattle.std.proofs.Common.{rules}
 use Rattle.pictures.proofs.Laws.{fills_file, reads_back_pictures, reads_only_pictures, refuses_what_is_wrong}
 use Rattle.pictures.proofs.read_picture.Goals as goal
 
-pub returns-in-Ok : goal.returns-in-Ok
-returns-in-Ok c =
-    let answer = c.check_size.ensures ∙ ap (λ (r : Result Reading Misfit). pictured r (length c.args.bytes.now)) (sym c.in-Ok.ensures.answers) in
-    record {
-      answers = answer;
-      within = fills_file c.args.bytes.now _ answer;
-      back = reads_back_pictures;
-      only = reads_only_pictures;
-      wrong = refuses_what_is_wrong;
-    }
+pub returns-in_err-sides-clause-back : goal.returns-in_err-sides-clause-back
+returns-in_err-sides-clause-back c = reads_back_pictures
 
-pub returns-in-Err : goal.returns-in-Err
-returns-in-Err c =
-    record {
-      answers = ap (λ (r : Result Reading Misfit). pictured r (length c.args.bytes.now)) (sym c.in-Err.ensures.answers);
-      within = tt;
-      back = reads_back_pictures;
-      only = reads_only_pictures;
-      wrong = refuses_what_is_wrong;
-    }
+pub returns-in_err-sides-clause-only : goal.returns-in_err-sides-clause-only
+returns-in_err-sides-clause-only c = reads_only_pictures
+
+pub returns-in_err-sides-clause-wrong : goal.returns-in_err-sides-clause-wrong
+returns-in_err-sides-clause-wrong c = refuses_what_is_wrong
+
+pub returns-clause-within : goal.returns-clause-within
+returns-clause-within c = search (rules, fills_file)
+
+pub returns-clause-back : goal.returns-clause-back
+returns-clause-back c = reads_back_pictures
+
+pub returns-clause-only : goal.returns-clause-only
+returns-clause-only c = reads_only_pictures
+
+pub returns-clause-wrong : goal.returns-clause-wrong
+returns-clause-wrong c = refuses_what_is_wrong

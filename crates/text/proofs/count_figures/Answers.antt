@@ -1,24 +1,27 @@
--- One more digit is one more of the run.
-use Rattle.std.proofs.Common.{◌≡◌, ℕ, suc, ◌+◌, ◌-◌, ◌<◌, true, List, length, get_or, drop, sym, ap, ◌∙◌, arith}
-use Rattle.std.proofs.lemmas.List.{at_drop_more}
-use Rattle.std.proofs.lemmas.Bool.{cond-true}
-use Rattle.std.proofs.lemmas.Int.Digits.{digits_more}
+-- A 0 stands alone, and other digits are counted up to four of them.
+use Rattle.std.proofs.Common.{rules, tests, ◌≡◌, ◌∙◌, sym, ℕ, List, take, arith}
+use Rattle.std.proofs.lemmas.Iterator.{YieldsList-from_slice, YieldsList-from_take}
+use Rattle.std.proofs.lemmas.Iterator.Consumers.{count_from_yields_List}
+use Rattle.std.proofs.lemmas.Iterator.Search.{YieldsList-from_take_while}
+use Rattle.std.proofs.lemmas.List.Folds.{length-prefix_len}
+use Rattle.std.proofs.lemmas.Bool.{cond-false}
 use Rattle.std.specs.Char.{is_ascii_digit}
 use Rattle.text.specs.Pieces.{run}
+use Rattle.text.proofs.Pieces.{no_zero, prefix_len-digits}
+use Rattle.text.proofs.Numbers.{runs}
 use Rattle.text.proofs.count_figures.Goals as goal
 
-run_more : (room i : ℕ) (text : List ℕ) → i < length text → is_ascii_digit (get_or text i 0) ≡ true
-    → run (suc room) (drop i text) ≡ run room (drop (i + 1) text) + 1
-run_more room i text h d = at_drop_more (run (suc room)) text i 0 h ∙ cond-true _ _ _ d
-
-pub loop-count-preserved : goal.loop-count-preserved
-loop-count-preserved c =
-    let i : ℕ = c.loop-count.count in
+pub returns : goal.returns
+returns c =
     let text : List ℕ = c.args.text.now in
-    let room : 4 - i ≡ suc (4 - (i + 1)) = omega arith in
-    let more : run (4 - i) (drop i text) ≡ run (4 - (i + 1)) (drop (i + 1) text) + 1 = ap (λ (k : ℕ). run k (drop i text)) room ∙ run_more _ i text c.loop-count-test.true (sym c.if-is_ascii_digit.ensures.value) in (
-      omega arith,
-      omega arith,
-      digits_more 10 text i c.loop-count-test.true c.loop-count.invariant.2 c.if-is_ascii_digit.ensures.bound,
-      omega (arith, c.loop-count.invariant.3),
-    )
+    let count : c.count.result ≡ run 4 text =
+    count_from_yields_List c.take_while.result _ c.count.ensures.ran
+    (YieldsList-from_take_while _ is_ascii_digit (YieldsList-from_take 4 (YieldsList-from_slice text cc) cc)
+    c.take_while.ensures.closure c.take_while.ensures.done (λ x b q k. search (rules, tests)))
+    ∙ (length-prefix_len is_ascii_digit (take 4 text) ∙ prefix_len-digits 4 text) in
+    let counted = runs 4 text in
+    record {
+      value = count ∙ sym (cond-false _ _ _ (no_zero text (sym c.if-starts_with.ensures.value)));
+      within = (omega arith, omega arith);
+      digits = rw count counted.digits;
+    }

@@ -1,19 +1,15 @@
 -- One more digit is ten times the number and the digit.
-use Rattle.std.proofs.Common.{◌≡◌, ℕ, ◌+◌, ◌-◌, ◌*◌, ◌^◌, List, get_or, ap, ◌∙◌, pow-suc, add-one, arith}
+use Rattle.std.proofs.Common.{◌≡◌, ℕ, ◌+◌, ◌*◌, ◌^◌, List, get_or, ap, ◌∙◌, pow-suc, add-one, arith}
 use Rattle.std.proofs.lemmas.Int.Digits.{digits_value_more}
 use Rattle.std.proofs.lemmas.List.{take_all}
+use Rattle.std.proofs.lemmas.Str.{digit_value_digit}
 use Rattle.std.proofs.lemmas.Str.Parse.{digit_at}
-use Rattle.std.proofs.lemmas.Bool.Decides.{nat_tests}
 use Rattle.std.specs.Str.Parse.{digits_value}
 use Rattle.std.specs.Int.{IsInRange}
-use Rattle.std.specs.Char.{digit_value}
 use Rattle.text.proofs.read_digits.Goals as goal
 
 pub overflow_sub-digit : goal.overflow_sub-digit
 overflow_sub-digit c = (digit_at c.args.digits.now c.loop-digit.digit-index c.requires.1 c.loop-digit-test.true).0
-
-figure_value : (b : ℕ) → IsInRange 48 57 b → digit_value b ≡ b - 48
-figure_value b h = grind (arith, nat_tests)
 
 pub loop-digit-preserved : goal.loop-digit-preserved
 loop-digit-preserved c =
@@ -22,7 +18,7 @@ loop-digit-preserved c =
     let digit : IsInRange 48 57 (get_or digits i 0) = digit_at digits i c.requires.1 c.loop-digit-test.true in
     let more = digits_value_more 10 digits i c.loop-digit-test.true in
     let power : 10 ^ (i + 1) ≡ 10 ^ i * 10 = rw add-one (pow-suc 10 i) in
-    let figure = figure_value (get_or digits i 0) digit in
+    let figure = digit_value_digit (get_or digits i 0) digit in
     (omega arith, omega (arith, c.loop-digit.invariant.1))
 
 pub returns : goal.returns

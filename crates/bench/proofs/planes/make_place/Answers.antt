@@ -1,4 +1,4 @@
-use Rattle.std.proofs.Common.{◌≡◌, ◌-◌, ◌*◌, map, length, take, drop, sym, ap, ◌∙◌, arith}
+use Rattle.std.proofs.Common.{◌≡◌, ◌*◌, map, length, take, drop, sym, ap, ◌∙◌, arith}
 use Rattle.std.proofs.lemmas.List.{length-map, length-take, length-drop}
 use Rattle.std.proofs.lemmas.Result.{MatchResult-at_ok}
 use Rattle.bench.specs.Model.{overwritten}
@@ -14,7 +14,7 @@ returns g c =
     let sides = c.requires.sides in
     let one_long : length c.part.result.now ≡ cells = ap length c.part.ensures ∙ simp (length-take, length-drop) (omega arith) in
     let other_long : length c.part-2.result.now ≡ cells = ap length c.part-2.ensures ∙ simp (length-take, length-drop) (omega arith) in
-    let plane_long : length (take (cells - 0) (drop 0 c.args.planes.now)) ≡ cells = simp (length-take, length-drop) (omega arith) in
+    let plane_long : length (take cells c.args.planes.now) ≡ cells = simp length-take (omega arith) in
     let accepted = two_sheets_accepted c.args.w c.args.h _ _ _ sides.0 sides.1.0 sides.1.1.0 sides.1.1.1 one_long other_long plane_long in
     let one = ap (map height) c.part.ensures ∙ heights_of_cells height c.args.one cells sheets in
     let other = ap (map height) c.part-2.ensures ∙ heights_of_cells height c.args.other cells sheets in

@@ -1,23 +1,11 @@
 -- Each need is a step of the reading, or how it comes out.
-use Rattle.std.proofs.Common.{◌≡◌, ◌+◌, ◌*◌, false, Err, sym, ap, ◌∙◌, arith}
+use Rattle.std.proofs.Common.{◌≡◌, ◌+◌, ◌*◌, Err, sym, ap, ◌∙◌, arith}
 use Rattle.std.proofs.lemmas.Result.{MatchResult-weaker, err_from_is_err_and}
-use Rattle.std.proofs.lemmas.Bool.{cond-false}
-use Rattle.elements.specs.declared.cards.CardFault.TheVariants.{Length}
-use Rattle.elements.specs.Cards.{end_fault, next_of, record_byte, sized}
-use Rattle.elements.proofs.Readings.{reading_starts, reading_goes_on, unset_fall}
+use Rattle.elements.specs.Cards.{end_fault, next_of, record_byte}
+use Rattle.elements.proofs.Readings.{reading_goes_on}
 use Rattle.elements.proofs.Outcomes.{accepted_flags, end_refused_flags, record_refused_flags}
 use Rattle.elements.proofs.Told.{tells_the_chain}
 use Rattle.elements.proofs.cards.read_card.Goals as goal
-
-pub returns-then-not-is_sized : goal.returns-then-not-is_sized
-returns-then-not-is_sized c =
-    let card = c.args.card.now in
-    let unsized : sized card ≡ false = sym c.if-not-is_sized.ensures in
-    let refused = cond-false _ _ _ unsized in
-    record { flags = refused; chain = tells_the_chain card (Err Length) refused }
-
-pub loop-next-init : goal.loop-next-init
-loop-next-init c = reading_starts c.args.card.now (sym c.if-not-is_sized.ensures)
 
 pub returns-in_err-next : goal.returns-in_err-next
 returns-in_err-next c =
@@ -42,11 +30,6 @@ returns-then-next-eq0 c =
     (λ element p. accepted_flags card n met reading visited.0 ends (3 * n) element.flags last (p.0 ∙ visited.2) (ap (end_fault (3 * n)) p.0 ∙ p.1))
     (λ fault p. end_refused_flags card n met reading visited.0 ends (3 * n) flags last visited.2 fault p) in
     record { flags = answer; chain = tells_the_chain card c.finish.result answer }
-
-pub loop-next-smaller : goal.loop-next-smaller
-loop-next-smaller c =
-    let visited = c.in_ok-next.ensures in
-    rw visited.2 (unset_fall c.args.card.now c.loop-next.number c.loop-next.flags c.loop-next.invariant visited.0)
 
 pub loop-next-preserved : goal.loop-next-preserved
 loop-next-preserved c =

@@ -1,7 +1,7 @@
 -- Each need is a step of the writing, or what the card comes to.
 use Rattle.std.proofs.Common.{◌≡◌, ◌≤◌, sym, ◌∙◌, arith, rules}
 use Rattle.std.proofs.lemmas.List.{get_or-set_same, length-set}
-use Rattle.elements.proofs.Writings.{all_written, passed_over, some_left, writing_goes_on, writing_starts}
+use Rattle.elements.proofs.Writings.{all_written, some_left, writing_goes_on, writing_starts}
 use Rattle.elements.proofs.Written.{written_cards_read_back}
 use Rattle.elements.proofs.writing.write_card.Goals as goal
 
@@ -28,9 +28,6 @@ loop-index-preserved-then-holds c =
     let written = c.write_record.ensures in
     writing_goes_on _ c.loop-index.invariant c.loop-index-test.true c.loop-index.auto.index (sym c.if-holds.ensures)
     _ c.write_record.auto.card written.offset written.next written.others
-
-pub loop-index-preserved : goal.loop-index-preserved
-loop-index-preserved c = passed_over _ c.loop-index.invariant c.loop-index-test.true c.loop-index.auto.index (sym c.if-holds.ensures)
 
 pub returns : goal.returns
 returns c =

@@ -10,7 +10,7 @@ use limits::Fault;
 use std::io;
 
 // Begins a visit where begin does not refuse.
-fn begin_free<L: Level>(flat: u16, rack: &mut Rack<'_, '_, L>, slate: &mut Slate<'_>) -> Slip
+fn begin_free<L: Level>(flat: u16, rack: &mut Rack<'_, L>, slate: &mut Slate<'_>) -> Slip
     requires flat { (1 ≤ flat) × (flat ≤ 9999) }
     requires free { (rack_outline rack.old).visit ≡ None }
     requires same { shared (rack_outline rack.old) ≡ shared (slate_outline slate.old) }
@@ -25,7 +25,7 @@ fn begin_free<L: Level>(flat: u16, rack: &mut Rack<'_, '_, L>, slate: &mut Slate
 }
 
 // Ends a visit where end does not refuse.
-fn end_own<L: Level>(slip: Slip, rack: &mut Rack<'_, '_, L>, slate: &mut Slate<'_>)
+fn end_own<L: Level>(slip: Slip, rack: &mut Rack<'_, L>, slate: &mut Slate<'_>)
     requires own { (rack_outline rack.old).visit ≡ Some slip.flat }
     requires same { shared (rack_outline rack.old) ≡ shared (slate_outline slate.old) }
     ensures rack { shared (rack_outline rack.new) ≡ (None, (rack_outline rack.old).w, (rack_outline rack.old).h) }
@@ -38,7 +38,7 @@ fn end_own<L: Level>(slip: Slip, rack: &mut Rack<'_, '_, L>, slate: &mut Slate<'
 }
 
 // Tries to begin a visit with a slate that has one; nothing changes.
-fn begin_refused<L: Level>(flat: u16, rack: &mut Rack<'_, '_, L>, slate: &mut Slate<'_>) -> Fault
+fn begin_refused<L: Level>(flat: u16, rack: &mut Rack<'_, L>, slate: &mut Slate<'_>) -> Fault
     requires { (slate_outline slate.old).visit ≢ None }
     ensures rack { rack_outline rack.new ≡ rack_outline rack.old }
     ensures slate { slate_outline slate.new ≡ slate_outline slate.old }
@@ -50,11 +50,7 @@ fn begin_refused<L: Level>(flat: u16, rack: &mut Rack<'_, '_, L>, slate: &mut Sl
 }
 
 // Tries to end a visit where the slip is not that of the rack or the slate is not the rack's; nothing changes.
-fn end_refused<L: Level>(
-    slip: Slip,
-    rack: &mut Rack<'_, '_, L>,
-    slate: &mut Slate<'_>,
-) -> (Slip, Fault)
+fn end_refused<L: Level>(slip: Slip, rack: &mut Rack<'_, L>, slate: &mut Slate<'_>) -> (Slip, Fault)
     requires { (rack_outline rack.old).visit ≡ Some slip.flat → shared (rack_outline rack.old) ≢ shared (slate_outline slate.old) }
     ensures slip { result.0 ≡ slip }
     ensures rack { rack_outline rack.new ≡ rack_outline rack.old }
@@ -68,9 +64,9 @@ fn end_refused<L: Level>(
 
 // Two visits of different flats: each slip is tried where it does not belong, and then spent where it does.
 fn cross_flats<L: Level>(
-    rack: &mut Rack<'_, '_, L>,
+    rack: &mut Rack<'_, L>,
     slate: &mut Slate<'_>,
-    other_rack: &mut Rack<'_, '_, L>,
+    other_rack: &mut Rack<'_, L>,
     other_slate: &mut Slate<'_>,
 ) -> [Fault; 5]
     requires rack { shared (rack_outline rack.old) ≡ (None, 5, 1) }
@@ -92,9 +88,9 @@ fn cross_flats<L: Level>(
 
 // Two visits of the same flat: with the slate of other sides end is refused.
 fn cross_sides<L: Level>(
-    rack: &mut Rack<'_, '_, L>,
+    rack: &mut Rack<'_, L>,
     slate: &mut Slate<'_>,
-    other_rack: &mut Rack<'_, '_, L>,
+    other_rack: &mut Rack<'_, L>,
     other_slate: &mut Slate<'_>,
 ) -> [Fault; 2]
     requires rack { shared (rack_outline rack.old) ≡ (None, 5, 1) }

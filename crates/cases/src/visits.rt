@@ -11,7 +11,7 @@ use limits::Fault;
 // A rack and its slate, and the slip of the visit that is open on them. It is not `Drop`: who takes it apart has first to end
 // that visit.
 pub(crate) struct Bench<'a, L: Level> {
-    pub(crate) rack: Rack<'a, 'a, L>,
+    pub(crate) rack: Rack<'a, L>,
     pub(crate) slate: Slate<'a>,
     pub(crate) slip: Option<Slip>,
     ghost holds: { ∥ Holds slip (rack_outline rack) (slate_outline slate) ∥₁ },

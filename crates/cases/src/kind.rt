@@ -19,7 +19,8 @@ pub struct Kind<'a, L> {
     pub element: Element,
 }
 
-// Prints the sum of the heights in a memory and the sum of its numbers, which are not below 0.
+// Prints the sum of the heights in a memory and the sum of its numbers, which are not below 0. `sum` would need a bound on them,
+// and `fold` saturates.
 fn print_memory<L: Level>(rt: &HostRuntime, levels: &[L], numbers: &[i32]) -> io::Result<()> {
     let heights = levels.iter().fold(
         0_u64,

@@ -1,21 +1,72 @@
 // Slips that are tried on a rack or a slate of another visit.
-ghost use Rattle.std.specs.Prelude.{◌≡◌, None};
+ghost use Rattle.std.specs.Prelude.{◌≡◌, ◌≤◌, ◌≢◌, Some, None};
 ghost use Rattle.bench.specs.Model.{rack_outline, slate_outline};
-ghost use Rattle.benchcases.specs.Visits.{shared};
+ghost use Rattle.cases.specs.Visits.{shared};
 
-use crate::memory::filled;
-use crate::show::show;
-use crate::visits::{begin_free, begin_refused, end_refused, end_visit};
-use bench::{Rack, Slate};
+use bench::{EndRefused, Rack, Slate, Slip, begin, end};
+use cases::Answer;
 use levels::level::Level;
 use limits::Fault;
 use std::io;
 
+// Begins a visit where begin does not refuse.
+fn begin_free<L: Level>(flat: u16, rack: &mut Rack<'_, L>, slate: &mut Slate<'_>) -> Slip
+    requires flat { (1 ≤ flat) × (flat ≤ 9999) }
+    requires free { (rack_outline rack.old).visit ≡ None }
+    requires same { shared (rack_outline rack.old) ≡ shared (slate_outline slate.old) }
+    ensures flat { result.flat ≡ flat }
+    ensures rack { shared (rack_outline rack.new) ≡ (Some flat, (rack_outline rack.old).w, (rack_outline rack.old).h) }
+    ensures slate { shared (slate_outline slate.new) ≡ (Some flat, (slate_outline slate.old).w, (slate_outline slate.old).h) }
+{
+    match begin(flat, rack, slate) {
+        Ok(slip) => slip,
+        Err(_) => unreachable!(),
+    }
+}
+
+// Ends a visit where end does not refuse.
+fn end_own<L: Level>(slip: Slip, rack: &mut Rack<'_, L>, slate: &mut Slate<'_>)
+    requires own { (rack_outline rack.old).visit ≡ Some slip.flat }
+    requires same { shared (rack_outline rack.old) ≡ shared (slate_outline slate.old) }
+    ensures rack { shared (rack_outline rack.new) ≡ (None, (rack_outline rack.old).w, (rack_outline rack.old).h) }
+    ensures slate { shared (slate_outline slate.new) ≡ (None, (slate_outline slate.old).w, (slate_outline slate.old).h) }
+{
+    match end(slip, rack, slate) {
+        Ok(()) => {}
+        Err(_) => unreachable!(),
+    }
+}
+
+// Tries to begin a visit with a slate that has one; nothing changes.
+fn begin_refused<L: Level>(flat: u16, rack: &mut Rack<'_, L>, slate: &mut Slate<'_>) -> Fault
+    requires { (slate_outline slate.old).visit ≢ None }
+    ensures rack { rack_outline rack.new ≡ rack_outline rack.old }
+    ensures slate { slate_outline slate.new ≡ slate_outline slate.old }
+{
+    match begin(flat, rack, slate) {
+        Ok(_) => unreachable!(),
+        Err(fault) => fault,
+    }
+}
+
+// Tries to end a visit where the slip is not that of the rack or the slate is not the rack's; nothing changes.
+fn end_refused<L: Level>(slip: Slip, rack: &mut Rack<'_, L>, slate: &mut Slate<'_>) -> (Slip, Fault)
+    requires { (rack_outline rack.old).visit ≡ Some slip.flat → shared (rack_outline rack.old) ≢ shared (slate_outline slate.old) }
+    ensures slip { result.0 ≡ slip }
+    ensures rack { rack_outline rack.new ≡ rack_outline rack.old }
+    ensures slate { slate_outline slate.new ≡ slate_outline slate.old }
+{
+    match end(slip, rack, slate) {
+        Ok(()) => unreachable!(),
+        Err(EndRefused { slip: back, fault }) => (back, fault),
+    }
+}
+
 // Two visits of different flats: each slip is tried where it does not belong, and then spent where it does.
 fn cross_flats<L: Level>(
-    rack: &mut Rack<'_, '_, L>,
+    rack: &mut Rack<'_, L>,
     slate: &mut Slate<'_>,
-    other_rack: &mut Rack<'_, '_, L>,
+    other_rack: &mut Rack<'_, L>,
     other_slate: &mut Slate<'_>,
 ) -> [Fault; 5]
     requires rack { shared (rack_outline rack.old) ≡ (None, 5, 1) }
@@ -27,19 +78,19 @@ fn cross_flats<L: Level>(
     let other = begin_free(8, other_rack, other_slate);
     let (other, other_flat) = end_refused(other, rack, slate);
     let (slip, other_visit) = end_refused(slip, rack, other_slate);
-    let _ = end_visit(other_rack, other_slate, Some(other));
+    end_own(other, other_rack, other_slate);
     let (slip, no_visit) = end_refused(slip, other_rack, other_slate);
     let (slip, slate_without) = end_refused(slip, rack, other_slate);
     let slate_with = begin_refused(9, other_rack, slate);
-    let _ = end_visit(rack, slate, Some(slip));
+    end_own(slip, rack, slate);
     [other_flat, other_visit, no_visit, slate_without, slate_with]
 }
 
 // Two visits of the same flat: with the slate of other sides end is refused.
 fn cross_sides<L: Level>(
-    rack: &mut Rack<'_, '_, L>,
+    rack: &mut Rack<'_, L>,
     slate: &mut Slate<'_>,
-    other_rack: &mut Rack<'_, '_, L>,
+    other_rack: &mut Rack<'_, L>,
     other_slate: &mut Slate<'_>,
 ) -> [Fault; 2]
     requires rack { shared (rack_outline rack.old) ≡ (None, 5, 1) }
@@ -55,15 +106,15 @@ fn cross_sides<L: Level>(
     let other = begin_free(9999, other_rack, other_slate);
     let (slip, wide) = end_refused(slip, rack, other_slate);
     let (other, high) = end_refused(other, other_rack, slate);
-    let _ = end_visit(rack, slate, Some(slip));
-    let _ = end_visit(other_rack, other_slate, Some(other));
+    end_own(slip, rack, slate);
+    end_own(other, other_rack, other_slate);
     [wide, high]
 }
 
 // Prints refusals.
 fn show_all(rt: &HostRuntime, faults: &[Fault]) -> io::Result<()> {
     for fault in faults {
-        show(rt, Err(*fault))?;
+        rt.println(Answer(Err(*fault)))?;
     }
     Ok(())
 }
@@ -71,10 +122,10 @@ fn show_all(rt: &HostRuntime, faults: &[Fault]) -> io::Result<()> {
 // Prints what is refused where the slips and the slates of two visits are crossed.
 pub(crate) fn cross_visits<L: Level>(rt: &HostRuntime) -> io::Result<()> {
     let heap = rt.alloc();
-    let mut levels = filled(heap, L::lowest(), 30)?;
-    let mut numbers = filled(heap, 0, 5)?;
-    let mut other_levels = filled(heap, L::lowest(), 30)?;
-    let mut other_numbers = filled(heap, 0, 5)?;
+    let mut levels = vec![in heap; L::lowest(); 30]?;
+    let mut numbers = vec![in heap; 0; 5]?;
+    let mut other_levels = vec![in heap; L::lowest(); 30]?;
+    let mut other_numbers = vec![in heap; 0; 5]?;
     let mut rack = Rack::open(levels.as_mut_slice(), 5, 1, 4);
     let mut slate = Slate::open(numbers.as_mut_slice(), 5, 1, 1);
     let mut other_rack = Rack::open(other_levels.as_mut_slice(), 1, 5, 4);

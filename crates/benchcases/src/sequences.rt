@@ -1,7 +1,5 @@
-// Sequences of calls on a rack and its slate, and what they leave in the memory.
-use crate::calls::{Call, Sizes, make_on};
-use crate::memory::{filled, show_memory};
-use elements::Element;
+// Sequences of calls on a rack and its slate.
+use cases::{Call, Kind, Sequence, Sizes};
 use levels::level::Level;
 use std::io;
 
@@ -109,130 +107,148 @@ const ROW: Sizes = Sizes {
     w: 5,
     h: 1,
     places: 4,
+    len: 30,
 };
 
 const TALLY: Sizes = Sizes {
     w: 5,
     h: 1,
     places: 1,
+    len: 5,
 };
 
-// Prints a title, makes calls on a rack in memory of `len` highest levels and a slate in memory of `count` numbers 7, and
-// prints the sums of the memory after them.
-fn make_calls<L: Level>(
-    rt: &HostRuntime,
-    kind: &str,
-    title: &str,
-    calls: &[Call],
-    element: &Element,
-    picture: &[L],
-    (len, sheets): (usize, Sizes),
-    (count, tallies): (usize, Sizes),
-) -> io::Result<()> {
-    println!(rt; "# {kind}: {title}")?;
-    let mut levels = filled(rt.alloc(), L::highest(), len)?;
-    let mut numbers = filled(rt.alloc(), 7, count)?;
-    make_on(
-        rt,
-        calls,
-        element,
-        picture,
-        levels.as_mut_slice(),
-        sheets,
-        numbers.as_mut_slice(),
-        tallies,
-    )?;
-    show_memory(rt, levels.as_slice(), numbers.as_slice())
-}
-
 // Sizes that make no rack and no slate, and those of a slate of other sides.
-const NONE: Sizes = Sizes {
+const ROW_TOO_LONG: Sizes = Sizes { len: 31, ..ROW };
+
+const TALLY_TOO_SHORT: Sizes = Sizes { len: 4, ..TALLY };
+
+const NO_RACK: Sizes = Sizes {
     w: 0,
     h: 1,
     places: 4,
+    len: 30,
 };
+
+const NO_SLATE: Sizes = Sizes { len: 5, ..NO_RACK };
 
 const COLUMN: Sizes = Sizes {
     w: 1,
     h: 5,
     places: 1,
+    len: 5,
 };
 
 // The sequences on sheets of five cells.
-fn make_rows<L: Level>(
-    rt: &HostRuntime,
-    kind: &str,
-    picture: &[L],
-    element: &Element,
-) -> io::Result<()> {
-    let rows: [(&str, &[Call], (usize, Sizes), (usize, Sizes)); 7] = [
-        ("two visits", &VISITS, (30, ROW), (5, TALLY)),
-        ("no visit", &NO_VISIT, (30, ROW), (5, TALLY)),
-        (
-            "a visit that is open at the end",
-            &OPEN_VISIT,
-            (30, ROW),
-            (5, TALLY),
-        ),
-        (
-            "a rack and a slate of wrong sizes",
-            &NO_PLACES,
-            (30, NONE),
-            (5, NONE),
-        ),
-        ("a rack of wrong sizes", &NO_PLACES, (31, ROW), (5, TALLY)),
-        ("a slate of wrong sizes", &NO_PLACES, (30, ROW), (4, TALLY)),
-        ("a slate of other sides", &NO_PLACES, (30, ROW), (5, COLUMN)),
-    ];
-    for (title, calls, rack, slate) in rows {
-        make_calls(rt, kind, title, calls, element, picture, rack, slate)?;
-    }
-    Ok(())
-}
+const ROWS: [Sequence<'static>; 7] = [
+    Sequence {
+        title: "two visits",
+        calls: &VISITS,
+        rack: ROW,
+        slate: TALLY,
+    },
+    Sequence {
+        title: "no visit",
+        calls: &NO_VISIT,
+        rack: ROW,
+        slate: TALLY,
+    },
+    Sequence {
+        title: "a visit that is open at the end",
+        calls: &OPEN_VISIT,
+        rack: ROW,
+        slate: TALLY,
+    },
+    Sequence {
+        title: "a rack and a slate of wrong sizes",
+        calls: &NO_PLACES,
+        rack: NO_RACK,
+        slate: NO_SLATE,
+    },
+    Sequence {
+        title: "a rack of wrong sizes",
+        calls: &NO_PLACES,
+        rack: ROW_TOO_LONG,
+        slate: TALLY,
+    },
+    Sequence {
+        title: "a slate of wrong sizes",
+        calls: &NO_PLACES,
+        rack: ROW,
+        slate: TALLY_TOO_SHORT,
+    },
+    Sequence {
+        title: "a slate of other sides",
+        calls: &NO_PLACES,
+        rack: ROW,
+        slate: COLUMN,
+    },
+];
 
-const ONE: Sizes = Sizes {
+const CELL_RACK: Sizes = Sizes {
     w: 1,
     h: 1,
     places: 12,
+    len: 14,
 };
 
-const WIDE: Sizes = Sizes {
+const CELL_SLATE: Sizes = Sizes {
+    len: 12,
+    ..CELL_RACK
+};
+
+const WIDE_RACK: Sizes = Sizes {
     w: 1_024,
     h: 1,
     places: 1,
+    len: 3_072,
 };
 
-const HIGH: Sizes = Sizes {
+const WIDE_SLATE: Sizes = Sizes {
+    len: 1_024,
+    ..WIDE_RACK
+};
+
+const HIGH_RACK: Sizes = Sizes {
     w: 1,
     h: 1_024,
     places: 1,
+    len: 3_072,
 };
 
-// Prints the answers to the sequences, and the sums of the memory after each.
-pub(crate) fn make_sequences<L: Level>(
-    rt: &HostRuntime,
-    kind: &str,
-    picture: &[L],
-    element: &Element,
-) -> io::Result<()> {
-    make_rows(rt, kind, picture, element)?;
-    let highest = filled(rt.alloc(), L::highest(), 1_024)?;
-    let rows: [(&str, &[Call], (usize, Sizes), (usize, Sizes)); 3] = [
-        ("twelve places", &TWELVE, (14, ONE), (12, ONE)),
-        ("1,024 columns", &LONG, (3_072, WIDE), (1_024, WIDE)),
-        ("1,024 rows", &LONG, (3_072, HIGH), (1_024, HIGH)),
-    ];
-    for (title, calls, rack, slate) in rows {
-        make_calls(
-            rt,
-            kind,
-            title,
-            calls,
-            element,
-            highest.as_slice(),
-            rack,
-            slate,
-        )?;
-    }
-    Ok(())
+const HIGH_SLATE: Sizes = Sizes {
+    len: 1_024,
+    ..HIGH_RACK
+};
+
+// The sequences on sheets of one cell and of 1,024.
+const ENDS: [Sequence<'static>; 3] = [
+    Sequence {
+        title: "twelve places",
+        calls: &TWELVE,
+        rack: CELL_RACK,
+        slate: CELL_SLATE,
+    },
+    Sequence {
+        title: "1,024 columns",
+        calls: &LONG,
+        rack: WIDE_RACK,
+        slate: WIDE_SLATE,
+    },
+    Sequence {
+        title: "1,024 rows",
+        calls: &LONG,
+        rack: HIGH_RACK,
+        slate: HIGH_SLATE,
+    },
+];
+
+// Makes all the sequences, those on larger sheets with a picture of highest levels.
+pub(crate) fn make_sequences<L: Level>(rt: &HostRuntime, kind: &Kind<'_, L>) -> io::Result<()> {
+    kind.make_sequences(rt, &ROWS)?;
+    let highest = vec![in rt.alloc(); L::highest(); 1_024]?;
+    let highest = Kind {
+        picture: highest.as_slice(),
+        ..*kind
+    };
+    highest.make_sequences(rt, &ENDS)
 }

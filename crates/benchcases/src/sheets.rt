@@ -1,45 +1,21 @@
 // Erosion and dilation as calls on lists of levels.
-use crate::memory::filled;
-use elements::Element;
+use cases::{Answer, Heights, Kind};
 use levels::level::Level;
 use limits::Fault;
 use morphology::{dilate, erode};
 use std::io;
 
-// Prints the answer of a call, and the heights that it left.
-fn show_sheet<L: Level>(
+// Prints the answer of a call that writes a list of five levels that were highest, and the heights that it left.
+fn show_written<L: Level, F: FnOnce(&mut [L]) -> Result<(), Fault>>(
     rt: &HostRuntime,
-    answer: Result<(), Fault>,
-    sheet: &[L],
-) -> io::Result<()> {
-    match answer {
-        Ok(()) => rt.print("=")?,
-        Err(fault) => {
-            let number = fault.number();
-            print!(rt; "! {number}")?
-        }
-    }
-    for level in sheet {
-        let height = level.height();
-        print!(rt; " {height}")?;
-    }
-    rt.println("")
-}
-
-// Erodes and dilates a sheet of w × h levels to a list of five levels that were highest.
-fn operate<L: Level>(
-    rt: &HostRuntime,
-    sheet: &[L],
-    w: usize,
-    h: usize,
-    element: &Element,
-) -> io::Result<()> {
-    let mut to = filled(rt.alloc(), L::highest(), 5)?;
-    let eroded = erode(sheet, to.as_mut_slice(), w, h, element);
-    show_sheet(rt, eroded, to.as_slice())?;
-    let mut to = filled(rt.alloc(), L::highest(), 5)?;
-    let dilated = dilate(sheet, to.as_mut_slice(), w, h, element);
-    show_sheet(rt, dilated, to.as_slice())
+    write: F,
+) -> io::Result<()>
+    requires { F.IsAlwaysCallable write }
+{
+    let mut to = vec![in rt.alloc(); L::highest(); 5]?;
+    let answer = Answer::from(write(to.as_mut_slice()));
+    let heights = Heights(to.as_slice());
+    println!(rt; "{answer}{heights}")
 }
 
 // The lengths of the sheet and its sides: first those that make a sheet, then each refusal.
@@ -63,13 +39,11 @@ const SHEETS: [(usize, usize, usize); 16] = [
 ];
 
 // Prints the erosions and the dilations of the first levels of a picture.
-pub(crate) fn operate_all<L: Level>(
-    rt: &HostRuntime,
-    picture: &[L],
-    element: &Element,
-) -> io::Result<()> {
+pub(crate) fn operate_all<L: Level>(rt: &HostRuntime, kind: &Kind<'_, L>) -> io::Result<()> {
     for (len, w, h) in SHEETS {
-        operate(rt, &picture[0..len.min(picture.len())], w, h, element)?;
+        let sheet = kind.first(len);
+        show_written(rt, |to: &mut [L]| erode(sheet, to, w, h, &kind.element))?;
+        show_written(rt, |to: &mut [L]| dilate(sheet, to, w, h, &kind.element))?;
     }
     Ok(())
 }

@@ -1,12 +1,12 @@
 // The sizes of racks and slates, at the ends of their ranges.
-use crate::show::show;
-use limits::{Fault, check_rack, check_slate};
+use cases::Answer;
+use limits::{check_rack, check_slate};
 use std::io;
 
-// Width, height, number of places and length of the memory.
-type Sizes = (usize, usize, usize, usize);
+// Width, height, number of places and length of the memory: a row of named fields takes six lines, and the loops name them.
+type Row = (usize, usize, usize, usize);
 
-const RACKS: [Sizes; 20] = [
+const RACKS: [Row; 20] = [
     (5, 1, 4, 30),
     (1, 1, 1, 3),
     (1024, 1024, 12, 14_680_064),
@@ -29,7 +29,7 @@ const RACKS: [Sizes; 20] = [
     (1, 1, 0, 7),
 ];
 
-const SLATES: [Sizes; 16] = [
+const SLATES: [Row; 16] = [
     (5, 1, 1, 5),
     (1, 1, 1, 1),
     (1024, 1024, 12, 12_582_912),
@@ -48,23 +48,15 @@ const SLATES: [Sizes; 16] = [
     (1, 1, 13, 7),
 ];
 
-// Prints whether sizes are refused.
-fn show_check(rt: &HostRuntime, checked: Result<(), Fault>) -> io::Result<()> {
-    match checked {
-        Ok(()) => show(rt, Ok(None)),
-        Err(fault) => show(rt, Err(fault)),
-    }
-}
-
-/// Prints which sizes make a rack and which make a slate.
+// Prints which sizes make a rack and which make a slate.
 pub(crate) fn check_sizes(rt: &HostRuntime) -> io::Result<()> {
     rt.println("# sizes of racks")?;
     for (w, h, places, len) in RACKS {
-        show_check(rt, check_rack(w, h, places, len))?;
+        rt.println(Answer::from(check_rack(w, h, places, len)))?;
     }
     rt.println("# sizes of slates")?;
     for (w, h, places, len) in SLATES {
-        show_check(rt, check_slate(w, h, places, len))?;
+        rt.println(Answer::from(check_slate(w, h, places, len)))?;
     }
     Ok(())
 }

@@ -1,9 +1,5 @@
-// Sequences of calls on a rack and its slate, and what they leave in the memory.
-use crate::cases::{Call, Sizes, make_on};
-use crate::memory::{filled, show_memory};
-use elements::Element;
-use levels::level::Level;
-use std::io;
+// Sequences of calls on a rack and its slate.
+use cases::{Call, Sequence, Sizes};
 
 // Calls that work cell by cell: every refusal in its order, the ends of every range, and each way in which places may be
 // the same.
@@ -257,65 +253,43 @@ const ROWS: [Call; 10] = [
     Call::End,
 ];
 
-const SQUARE: Sizes = Sizes {
-    w: 2,
-    h: 2,
-    places: 2,
-};
-
 const ROW: Sizes = Sizes {
     w: 5,
     h: 1,
     places: 4,
+    len: 30,
 };
 
 const TALLY: Sizes = Sizes {
     w: 5,
     h: 1,
     places: 1,
+    len: 5,
 };
 
-// Prints a title, makes calls on a rack in memory of `len` highest levels and a slate in memory of `count` numbers 7, and
-// prints the sums of the memory after them.
-fn make_calls<L: Level>(
-    rt: &HostRuntime,
-    kind: &str,
-    title: &str,
-    calls: &[Call],
-    element: &Element,
-    picture: &[L],
-    (len, sheets): (usize, Sizes),
-    (count, tallies): (usize, Sizes),
-) -> io::Result<()> {
-    println!(rt; "# {kind}: {title}")?;
-    let mut levels = filled(rt.alloc(), L::highest(), len)?;
-    let mut numbers = filled(rt.alloc(), 7, count)?;
-    make_on(
-        rt,
-        calls,
-        element,
-        picture,
-        levels.as_mut_slice(),
-        sheets,
-        numbers.as_mut_slice(),
-        tallies,
-    )?;
-    show_memory(rt, levels.as_slice(), numbers.as_slice())
-}
+const SQUARE_RACK: Sizes = Sizes {
+    w: 2,
+    h: 2,
+    places: 2,
+    len: 16,
+};
 
-// Prints the answers to the sequences, and the sums of the memory after each.
-pub(crate) fn make_sequences<L: Level>(
-    rt: &HostRuntime,
-    kind: &str,
-    picture: &[L],
-    element: &Element,
-) -> io::Result<()> {
-    let rows: [(&str, &[Call], (usize, Sizes), (usize, Sizes)); 2] = [
-        ("cell by cell", &CELLS, (30, ROW), (5, TALLY)),
-        ("two rows", &ROWS, (16, SQUARE), (8, SQUARE)),
-    ];
-    for (title, calls, rack, slate) in rows {
-        make_calls(rt, kind, title, calls, element, picture, rack, slate)?;
-    }
-    Ok(())
-}
+const SQUARE_SLATE: Sizes = Sizes {
+    len: 8,
+    ..SQUARE_RACK
+};
+
+pub(crate) const SEQUENCES: [Sequence<'static>; 2] = [
+    Sequence {
+        title: "cell by cell",
+        calls: &CELLS,
+        rack: ROW,
+        slate: TALLY,
+    },
+    Sequence {
+        title: "two rows",
+        calls: &ROWS,
+        rack: SQUARE_RACK,
+        slate: SQUARE_SLATE,
+    },
+];

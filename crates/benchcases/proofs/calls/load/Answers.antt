@@ -1,5 +1,0 @@
-use Rattle.benchcases.proofs.Slips.{stored-shared}
-use Rattle.benchcases.proofs.calls.load.Goals as goal
-
-pub returns : goal.returns
-returns g c = stored-shared _ _ _ _ _ c.load.ensures.steps

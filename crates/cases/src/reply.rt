@@ -1,0 +1,74 @@
+// What the calls answer, with what they left in their lists.
+ghost use Rattle.std.specs.Prelude.{Some};
+ghost use Rattle.cases.specs.Texts.{numbers_text, reply_text, spot_text};
+
+use crate::answer::{Answer, Heights};
+use calls::Spot;
+use levels::Mask;
+use levels::level::Level;
+use limits::Fault;
+use std::fmt;
+
+// What a call answers, and the list that it was to write.
+#[derive(Drop)]
+pub(crate) enum Reply<L> {
+    Told(Answer),
+    Span(Result<(Spot<L>, Spot<L>), Fault>),
+    Sheet(Answer, Vec<L>),
+    Mask(Answer, Vec<Mask>),
+    Tally(Result<u16, Fault>, Vec<i32>),
+}
+
+// The column, the row and the height of a spot, each printed behind a space.
+#[derive(Clone, Copy)]
+struct Place<'a, L>(&'a Spot<L>);
+
+impl<L: Level> fmt::Display for Place<'_, L> {
+    ghost output = { λ place. Some (spot_text L.height place.0.now) };
+
+    fn fmt<W: fmt::Write>(&self, f: &mut fmt::Formatter<W>) -> fmt::Result {
+        let Spot { column, row, level } = *self.0;
+        let height = level.height();
+        write!(f, " {column} {row} {height}")
+    }
+}
+
+// Numbers, each printed behind a space.
+#[derive(Clone, Copy)]
+struct Numbers<'a>(&'a [i32]);
+
+impl fmt::Display for Numbers<'_> {
+    ghost output = { λ numbers. Some (numbers_text numbers.0.now) };
+
+    fn fmt<W: fmt::Write>(&self, f: &mut fmt::Formatter<W>) -> fmt::Result {
+        for number in self.0 {
+            write!(f, " {number}")?;
+        }
+        Ok(())
+    }
+}
+
+impl<L: Level> fmt::Display for Reply<L> {
+    ghost output = { λ reply. Some (reply_text L.height reply) };
+
+    fn fmt<W: fmt::Write>(&self, f: &mut fmt::Formatter<W>) -> fmt::Result {
+        match self {
+            Reply::Told(answer) => write!(f, "{answer}"),
+            Reply::Span(Ok((least, greatest))) => {
+                write!(f, "={}{}", Place(least), Place(greatest))
+            }
+            Reply::Span(Err(fault)) => write!(f, "{}", Answer(Err(*fault))),
+            Reply::Sheet(answer, list) => write!(f, "{answer}{}", Heights(list.as_slice())),
+            Reply::Mask(answer, list) => write!(f, "{answer}{}", Heights(list.as_slice())),
+            Reply::Tally(Ok(weight), list) => {
+                write!(f, "= {weight}:{}", Numbers(list.as_slice()))
+            }
+            Reply::Tally(Err(fault), list) => write!(
+                f,
+                "{}{}",
+                Answer(Err(*fault)),
+                Numbers(list.as_slice())
+            ),
+        }
+    }
+}

@@ -16,7 +16,7 @@ use limits::{Fault, Sides};
 
 // The rack and the slate of a job, and the slip of the visit that is open on them.
 pub(crate) struct JobBench<'a, 'b> {
-    pub(crate) rack: Rack<'a, 'a, Gray>,
+    pub(crate) rack: Rack<'a, Gray>,
     pub(crate) slate: Slate<'b>,
     pub(crate) slip: Option<Slip>,
     ghost on_rack: { (rack_outline rack).visit ≡ slip_flat slip } by { Prim.hlevel props },

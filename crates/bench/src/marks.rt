@@ -4,6 +4,7 @@ ghost use Rattle.bench.specs.Flags.{none};
 
 /// Sides, number of places, the flat of the open visit or none, and for each filled place what is kept of it beside its
 /// cells: nothing of a sheet, its weight of a tally. With no visit open every place is empty.
+// Wrong sizes are sides 0 and no places, and no `Option`: by a rule of the project a rack opens with any sizes and tells these.
 #[derive(Drop)]
 pub struct Marks<T> {
     pub(crate) w: usize,

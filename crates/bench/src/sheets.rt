@@ -52,6 +52,7 @@ impl<L: Level> Rack<'_, L> {
         self.make(&ByElement { op, element }, from, from, to)
     }
 
+    // The names of the two calls are the users', so each stands over the one call.
     /// Fills the place `to` with the erosion by an element of the sheet in the place `from`, which may be the same.
     /// Refuses a place that the rack has not (5), no visit open (31), and a source place that is empty (34).
     pub fn erode(&mut self, element: &Element, from: usize, to: usize) -> Result<(), Fault>

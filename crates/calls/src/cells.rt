@@ -26,6 +26,7 @@ pub(crate) fn write_mask<L: Level>(sheet: &[L], height: u32, mask: &mut [Mask])
     requires { length mask.old ≡ length sheet.now }
     ensures { map mask_height mask.new ≡ cut height (map L.height sheet.now) }
 {
+    // By place, since after a zip with `mask.iter_mut()` a proof knows of the mask no more than its length.
     for (place, level) in sheet.iter().enumerate() {
         mask[place] = mask_of(*level, height);
     }

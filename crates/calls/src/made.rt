@@ -7,6 +7,7 @@ use levels::level::Level;
 use limits::Fault;
 use morphology::{CellByCell, Operation};
 
+// The names of the two calls are the users', so each stands over `Rack::make`.
 /// Fills the place `to` with the meet of the sheets in the places `one` and `other`: the lower of the two, cell by cell. Any
 /// of the three places may be the same.
 /// Refuses a place that the rack has not (5), no visit open (31), and a source place that is empty (34); a refusal changes

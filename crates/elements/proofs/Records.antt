@@ -2,7 +2,8 @@
 use Rattle.std.proofs.Common.{◌≡◌, ℕ, ◌≤◌, Bool, true, false, ◌⊎◌, List, get_or, Some, None, Option, refl, inl, inr, arith}
 use Rattle.std.proofs.lemmas.Bool.Decides.{nat_tests}
 use Rattle.elements.specs.declared.cards.CardFault.{CardFault}
-use Rattle.elements.specs.Cards.{column_of, far, first, next_of, record_fault, record_place, records, row_of}
+use Rattle.limits.specs.Faults.{first}
+use Rattle.elements.specs.Cards.{column_of, far, next_of, record_fault, record_place, records, row_of}
 
 -- A test that finds a fault tells that one, and else what the rest finds.
 pub found_by : (test : Bool) (fault f : CardFault) (rest : Option CardFault) → first test fault rest ≡ Some f

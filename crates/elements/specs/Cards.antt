@@ -2,6 +2,7 @@
 use Rattle.std.specs.Prelude.{ℕ, zero, suc, ◌+◌, ◌-◌, ◌*◌, Bool, true, false, cond, not, ◌&&◌, ◌||◌, List, length, replicate, ℤ, pos, negsuc, Some, None, Ok, Err, Option, Result, ◌==◌, int_lt, nat_le, nat_lt, slice_index, slice_index_or, slice_set}
 use Rattle.std.specs.Int.{w8}
 use Rattle.std.proofs.Common.{to_z}
+use Rattle.limits.specs.Faults.{first}
 use Rattle.elements.specs.declared.cards.CardFault.{CardFault}
 use Rattle.elements.specs.declared.cards.CardFault.TheVariants.{Length, Offset, Next, Repeated, NoCentre, OnlyCentre}
 use Rattle.elements.specs.Offsets.{count, place_of}
@@ -55,10 +56,6 @@ record_place card n = place_of (column_of card n) (row_of card n)
 -- Whether a column or a row lies outside −3 to 3.
 abbrev pub far : ℤ → Bool
 far z = int_lt z (negsuc 2) || int_lt (pos 3) z
-
--- A fault if the test says so, and else what the rest finds.
-abbrev pub first : Bool → CardFault → Option CardFault → Option CardFault
-first test fault rest = cond test (Some fault) rest
 
 -- The fault of a column and a row that stand at this byte and after it, and else what the rest finds.
 abbrev pub far_fault : ℕ → ℤ → ℤ → Option CardFault → Option CardFault

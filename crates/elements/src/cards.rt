@@ -41,6 +41,7 @@ impl CardFault {
     }
 
     /// The byte of the card at which the fault shows, counted from 0.
+    // 0 and no `Option` for `Length`, here and for the other faults: the printed line has a number there, 0 where there is no place.
     pub fn place(self) -> usize
         ensures { result ≡ card_fault_place self }
     {

@@ -20,6 +20,7 @@ pub enum JobFault {
     Line(LineFault),
 }
 
+// Each fault type has its own `number` and `place`, and no trait: nothing is generic over faults, and this is the one place that joins them.
 impl JobFault {
     /// The letter of the layer: C card, P picture, B bench, J job.
     pub fn layer(self) -> &'static str

@@ -22,7 +22,7 @@ fault_number EmptyTally = 35
 fault_number Unequal = 37
 
 -- a fault if the test says so, and else what the rest finds
-abbrev pub first : Bool → Fault → Option Fault → Option Fault
+abbrev pub first : {F : Type 0} → Bool → F → Option F → Option F
 first test fault rest = cond test (Some fault) rest
 
 -- the answer of a call that tells nothing but its refusal

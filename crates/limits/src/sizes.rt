@@ -23,6 +23,7 @@ pub fn check_sizes(working: u8, w: usize, h: usize, places: usize, len: usize) -
     Ok(())
 }
 
+// The names of the two calls are the users', so each stands over `check_sizes`.
 /// Whether memory of `len` levels serves a rack of that many places for sheets of w × h levels, with two working planes.
 /// Refuses a side that is not 1 to 1,024 (1), a number of places that is not 1 to 12 (2), and then a length that is not
 /// (places + 2) × w × h (3).

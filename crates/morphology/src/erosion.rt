@@ -33,6 +33,7 @@ pub fn operate<L: Level>(
     Ok(())
 }
 
+// The names of the two calls are the users', so each stands over `operate`.
 /// Writes the erosion of the sheet `from` of w × h levels by an element to the list `to`.
 /// Each cell becomes the least of the levels at the element's offsets from it; outside counts as lowest.
 /// Refuses a side that is not 1 to 1,024 (1), then a list that has not w × h levels (4), and then leaves `to` as it was.

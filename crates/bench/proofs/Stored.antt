@@ -8,9 +8,6 @@ use Rattle.bench.specs.Model.{is_place, state_of, cells_of, place_start, overwri
 use Rattle.bench.specs.Calls.{stored}
 
 module _ {X : Type 0} (start : ℕ) (cells memory : List X) (room : start + length cells ≤ length memory) where
-  pub length-overwritten : length (overwritten start cells memory) ≡ length memory
-  length-overwritten = simp (length-append, length-take, length-drop) (omega arith)
-
   -- the cells that were written
   pub taken_written : take (length cells) (drop start (overwritten start cells memory)) ≡ cells
   taken_written =

@@ -1,5 +1,5 @@
 // Passes of one offset over the rows of a sheet.
-ghost use Rattle.std.specs.Prelude.{◌≡◌, ◌-◌, ◌*◌, ◌≤◌, ◌<◌, ℕ, min, map, length, slice_index};
+ghost use Rattle.std.specs.Prelude.{◌≡◌, ◌-◌, ◌*◌, ◌<◌, ℕ, min, map, length, slice_index};
 ghost use Rattle.morphology.specs.Passes.{extreme, in_row, neighbour};
 ghost use Rattle.morphology.specs.Sheets.{at_place};
 

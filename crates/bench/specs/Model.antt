@@ -1,9 +1,10 @@
 -- The state of a rack or a slate, as its users know it. Assumes nothing.
-use Rattle.std.specs.Prelude.{ℕ, ◌+◌, ◌-◌, ◌*◌, Bool, cond, ◌&&◌, List, [], ◌++◌, map, length, take, drop, ℤ, is_some, None, Option, nat_le, slice_index_or}
+use Rattle.std.specs.Prelude.{ℕ, ◌+◌, ◌-◌, ◌*◌, Bool, cond, ◌&&◌, List, [], ◌++◌, map, length, take, drop, ℤ, is_some, Some, None, Option, nat_le, slice_index_or}
 use Rattle.std.specs.Option.{unwrap_or}
 use Rattle.bench.specs.declared.marks.Marks.{Marks}
 use Rattle.bench.specs.declared.rack.Rack.{Rack}
 use Rattle.bench.specs.declared.slate.Slate.{Slate}
+use Rattle.bench.specs.declared.slip.Slip.{Slip}
 
 -- The outline of a rack or a slate: its sides, how many places it has, the flat of the open visit or none, and which
 -- places, counted from 1, are filled. Every refusal is told from outlines alone.
@@ -73,3 +74,8 @@ sheet_in m heights k = cells_of (m.w * m.h) k heights
 -- The weight of the tally in place k of a slate, 0 where it is empty. A tally is a signed number for each cell, and a weight.
 abbrev pub tally_weight : Slate → ℕ → ℕ
 tally_weight s k = unwrap_or (slice_index_or s.marks.filled (k - 1) None) 0
+
+-- the flat on a slip, if there is one
+abbrev pub slip_flat : Option Slip → Option ℕ
+slip_flat None = None
+slip_flat (Some slip) = Some slip.flat

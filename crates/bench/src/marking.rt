@@ -108,6 +108,7 @@ impl<T: Copy> Marks<T> {
         ensures visit { self.new.visit ≡ None }
         ensures filled { self.new.filled ≡ replicate 12 None }
     {
+        // Bound first, since the check covers no repeat that is written to a field.
         let empty = [None; 12];
         self.filled = empty;
         self.visit = None;

@@ -4,7 +4,8 @@ ghost use Rattle.bench.specs.Flags.{none};
 
 /// Sides, number of places, the flat of the open visit or none, and for each filled place what is kept of it beside its
 /// cells: nothing of a sheet, its weight of a tally. With no visit open every place is empty.
-// Wrong sizes are sides 0 and no places, and no `Option`: by a rule of the project a rack opens with any sizes and tells these.
+// Wrong sizes are sides 0 and no places, and no `Option`: a rack must open with any sizes, and each call would take it apart.
+// Twelve entries with the number of places beside them: fixed memory by a rule of the project.
 #[derive(Drop)]
 pub struct Marks<T> {
     pub(crate) w: usize,

@@ -4,6 +4,7 @@ ghost use Rattle.bench.specs.Model.{overwritten};
 ghost use Rattle.morphology.specs.Sheets.{area};
 
 use levels::level::Level;
+use limits::Sides;
 use morphology::Transform;
 
 // Writes cells from a start on.
@@ -22,7 +23,7 @@ pub(crate) fn area_of<L: Level>(sheet: &[L]) -> u64
     sheet.iter().map(|level| u64::from(level.height())).sum()
 }
 
-// So many cells from a start on.
+// So many cells from a start on: all places lie in one lent slice, since the library has no heap.
 pub(crate) fn part<T>(memory: &[T], start: usize, cells: usize) -> &[T]
     requires { start + cells ≤ length memory.now }
     ensures { result.now ≡ take cells (drop start memory.now) }
@@ -31,34 +32,32 @@ pub(crate) fn part<T>(memory: &[T], start: usize, cells: usize) -> &[T]
 }
 
 // Writes what a transformation makes of the sheets from two starts to the cells from a third, by way of a working plane.
-// It takes both parts of the memory and is no method, since a field of the rack can't be read while another is lent.
+// No method: both parts of the memory are lent to it at once.
 pub(crate) fn make_place<T: Transform, L: Level>(
     transform: &T,
     sheets: &mut [L],
     planes: &mut [L],
-    w: usize,
-    h: usize,
+    sides: Sides,
     one: usize,
     other: usize,
     to: usize,
 )
-    requires sides { (1 ≤ w) × ((w ≤ 1024) × ((1 ≤ h) × (h ≤ 1024))) }
-    requires one { one + w * h ≤ length sheets.old }
-    requires other { other + w * h ≤ length sheets.old }
-    requires target { to + w * h ≤ length sheets.old }
-    requires plane { w * h ≤ length planes.old }
-    ensures made { map L.height sheets.new ≡ overwritten to (T.makes transform.now w h (take (w * h) (drop one (map L.height sheets.old))) (take (w * h) (drop other (map L.height sheets.old)))) (map L.height sheets.old) }
-    ensures length { length (T.makes transform.now w h (take (w * h) (drop one (map L.height sheets.old))) (take (w * h) (drop other (map L.height sheets.old)))) ≡ w * h }
+    requires one { one + sides.w * sides.h ≤ length sheets.old }
+    requires other { other + sides.w * sides.h ≤ length sheets.old }
+    requires target { to + sides.w * sides.h ≤ length sheets.old }
+    requires plane { sides.w * sides.h ≤ length planes.old }
+    ensures made { map L.height sheets.new ≡ overwritten to (T.makes transform.now sides.w sides.h (take (sides.w * sides.h) (drop one (map L.height sheets.old))) (take (sides.w * sides.h) (drop other (map L.height sheets.old)))) (map L.height sheets.old) }
+    ensures length { length (T.makes transform.now sides.w sides.h (take (sides.w * sides.h) (drop one (map L.height sheets.old))) (take (sides.w * sides.h) (drop other (map L.height sheets.old)))) ≡ sides.w * sides.h }
 {
-    let cells = w * h;
+    let cells = sides.cells();
     let plane = &mut planes[..cells];
     transform
         .transform(
             part(sheets, one, cells),
             part(sheets, other, cells),
             plane,
-            w,
-            h,
+            sides.w,
+            sides.h,
         )
         .unwrap();
     store(sheets, to, plane);

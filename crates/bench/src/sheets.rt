@@ -10,7 +10,7 @@ use crate::planes::{area_of, make_place, part, store};
 use crate::rack::Rack;
 use elements::Element;
 use levels::level::Level;
-use limits::Fault;
+use limits::{Fault, Sides};
 use morphology::{ByElement, Operation, Transform};
 
 impl<L: Level> Rack<'_, L> {
@@ -109,12 +109,15 @@ impl<L: Level> Rack<'_, L> {
         let marks = &self.marks;
         marks.refuse_make(one, other, to)?;
         let cells = marks.cells();
+        let sides = Sides {
+            w: marks.w,
+            h: marks.h,
+        };
         make_place(
             transform,
             self.sheets,
             self.planes,
-            marks.w,
-            marks.h,
+            sides,
             (one - 1) * cells,
             (other - 1) * cells,
             (to - 1) * cells,

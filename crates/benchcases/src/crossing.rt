@@ -9,6 +9,8 @@ use levels::level::Level;
 use limits::Fault;
 use std::io;
 
+// Rack and slate stand apart here, with their facts: each is tried with those of another visit.
+
 // Begins a visit where begin does not refuse.
 fn begin_free<L: Level>(flat: u16, rack: &mut Rack<'_, L>, slate: &mut Slate<'_>) -> Slip
     requires flat { (1 ≤ flat) × (flat ≤ 9999) }
@@ -18,10 +20,7 @@ fn begin_free<L: Level>(flat: u16, rack: &mut Rack<'_, L>, slate: &mut Slate<'_>
     ensures rack { shared (rack_outline rack.new) ≡ (Some flat, (rack_outline rack.old).w, (rack_outline rack.old).h) }
     ensures slate { shared (slate_outline slate.new) ≡ (Some flat, (slate_outline slate.old).w, (slate_outline slate.old).h) }
 {
-    match begin(flat, rack, slate) {
-        Ok(slip) => slip,
-        Err(_) => unreachable!(),
-    }
+    begin(flat, rack, slate).unwrap()
 }
 
 // Ends a visit where end does not refuse.

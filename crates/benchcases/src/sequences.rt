@@ -1,5 +1,5 @@
 // Sequences of calls on a rack and its slate.
-use cases::{Call, Kind, Sequence, Sizes};
+use cases::{Call, Kind, ROW, Sequence, Sizes, TALLY};
 use levels::level::Level;
 use std::io;
 
@@ -102,20 +102,6 @@ const LONG: [Call; 9] = [
     Call::Area(1),
     Call::End,
 ];
-
-const ROW: Sizes = Sizes {
-    w: 5,
-    h: 1,
-    places: 4,
-    len: 30,
-};
-
-const TALLY: Sizes = Sizes {
-    w: 5,
-    h: 1,
-    places: 1,
-    len: 5,
-};
 
 // Sizes that make no rack and no slate, and those of a slate of other sides.
 const ROW_TOO_LONG: Sizes = Sizes { len: 31, ..ROW };

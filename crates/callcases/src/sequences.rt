@@ -1,5 +1,5 @@
 // Sequences of calls on a rack and its slate.
-use cases::{Call, Sequence, Sizes};
+use cases::{Call, ROW, Sequence, Sizes, TALLY};
 
 // Calls that work cell by cell: every refusal in its order, the ends of every range, and each way in which places may be
 // the same.
@@ -252,20 +252,6 @@ const ROWS: [Call; 10] = [
     Call::Show { place: 2, len: 5 },
     Call::End,
 ];
-
-const ROW: Sizes = Sizes {
-    w: 5,
-    h: 1,
-    places: 4,
-    len: 30,
-};
-
-const TALLY: Sizes = Sizes {
-    w: 5,
-    h: 1,
-    places: 1,
-    len: 5,
-};
 
 const SQUARE_RACK: Sizes = Sizes {
     w: 2,

@@ -24,14 +24,11 @@ pub fn span<L: Level>(rack: &Rack<'_, L>, place: usize) -> Result<(Spot<L>, Spot
     Ok(spots_of(sheet, w))
 }
 
+// The names of the three calls below are the users', and each tries the length of its own list first, by the order of refusals.
 /// Copies the sheet in a place to a list of w × h levels.
 /// Refuses a list of another length (4), a place that the rack has not (5), no visit open (31), and a place that is
 /// empty (34), and then leaves the list as it was.
-pub fn show_sheet<L: Level>(
-    rack: &Rack<'_, L>,
-    place: usize,
-    list: &mut [L],
-) -> Result<(), Fault>
+pub fn show_sheet<L: Level>(rack: &Rack<'_, L>, place: usize, list: &mut [L]) -> Result<(), Fault>
     ensures answers { result ≡ told (show_sheet_refusal (rack_outline rack.now) place (length list.old)) }
     ensures list { MatchResult result
         (λ _. map L.height list.new ≡ (rack_state L.height rack.now).content place)

@@ -1,12 +1,7 @@
 -- The slip at hand is that of the visit on a rack and its slate. Assumes nothing.
-use Rattle.std.specs.Prelude.{◌≡◌, ℕ, true, is_some, Some, None, Option}
+use Rattle.std.specs.Prelude.{◌≡◌, ℕ, true, is_some, Option}
 use Rattle.bench.specs.declared.slip.Slip.{Slip}
-use Rattle.bench.specs.Model.{Outline}
-
--- the flat on the slip, if there is one
-abbrev pub slip_flat : Option Slip → Option ℕ
-slip_flat None = None
-slip_flat (Some slip) = Some slip.flat
+use Rattle.bench.specs.Model.{Outline, slip_flat}
 
 -- what a rack and its slate have in common during a visit: the visit, and the sides
 abbrev pub shared : Outline → Option ℕ × ℕ × ℕ

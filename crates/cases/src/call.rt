@@ -53,6 +53,22 @@ pub struct Sizes {
     pub len: usize,
 }
 
+/// Sheets of one row of five cells in four places.
+pub const ROW: Sizes = Sizes {
+    w: 5,
+    h: 1,
+    places: 4,
+    len: 30,
+};
+
+/// A tally of one row of five cells.
+pub const TALLY: Sizes = Sizes {
+    w: 5,
+    h: 1,
+    places: 1,
+    len: 5,
+};
+
 /// Calls that are made one after another on a rack and a slate of these sizes.
 #[derive(Clone, Copy)]
 pub struct Sequence<'a> {

@@ -20,7 +20,7 @@ pub struct Kind<'a, L> {
 }
 
 // Prints the sum of the heights in a memory and the sum of its numbers, which are not below 0. `sum` would need a bound on them,
-// and `fold` saturates.
+// and `saturating_add` needs none.
 fn print_memory<L: Level>(rt: &HostRuntime, levels: &[L], numbers: &[i32]) -> io::Result<()> {
     let heights = levels.iter().fold(
         0_u64,
@@ -55,6 +55,7 @@ impl<'a, L: Level> Kind<'a, L> {
         bench: &mut Bench<'_, L>,
         call: Call,
     ) -> Result<Reply<L>, AllocError> {
+        // A match: the table says which call.
         let answer = match call {
             Call::Begin(flat) => bench.begin(flat).into(),
             Call::Load { place, len } => bench.rack.load(place, self.first(len)).into(),
@@ -111,6 +112,7 @@ impl<'a, L: Level> Kind<'a, L> {
         );
         let printed = self.make_all(rt, &mut bench, sequence.calls);
         let _ = bench.end();
+        // Taken apart: a slip's own drop asks for something, so the check covers no drop of a struct that holds one.
         let Bench {
             rack: _,
             slate: _,
@@ -122,7 +124,7 @@ impl<'a, L: Level> Kind<'a, L> {
 
     /// Makes sequences of calls, each on a rack in memory of highest levels and a slate in memory of numbers 7. Prints the titles
     /// of the kind and of the sequence, the answer of each call, and the sums of the memory after them. A visit that is open at
-    /// the end is ended silently.
+    /// the end is ended silently. What is printed is outside of any contract.
     pub fn make_sequences(&self, rt: &HostRuntime, sequences: &[Sequence<'_>]) -> io::Result<()> {
         for sequence in sequences {
             self.make_calls(rt, *sequence)?;

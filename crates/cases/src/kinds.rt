@@ -12,11 +12,9 @@ pub trait Cases {
 }
 
 /// Does what a program does at masks cut at 1 and at 2, at gray and at heat, each with a picture of five levels and one too
-/// many, by the element (0, 0) and (1, 0).
+/// many, by the element (0, 0) and (1, 0). What is printed is outside of any contract.
 pub fn run_at_every_kind<C: Cases>(rt: &HostRuntime, cases: &C) -> io::Result<()> {
-    let Ok(element) = Element::built_in(3) else {
-        unreachable!()
-    };
+    let element = Element::built_in(3).unwrap();
     let (no, yes) = (Mask::No, Mask::Yes);
     let [none, one, two] = [Gray::new(0), Gray::new(1), Gray::new(2)];
     let [blank, cold, warm] = [Heat::blank(), Heat::of_count(-32_768), Heat::of_count(320)];

@@ -10,6 +10,6 @@ mod reply;
 mod visits;
 
 pub use answer::{Answer, Heights};
-pub use call::{Call, Sequence, Sizes};
+pub use call::{Call, ROW, Sequence, Sizes, TALLY};
 pub use kind::Kind;
 pub use kinds::{Cases, run_at_every_kind};

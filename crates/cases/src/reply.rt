@@ -33,7 +33,7 @@ impl<L: Level> fmt::Display for Place<'_, L> {
     }
 }
 
-// Numbers, each printed behind a space.
+// Numbers, each printed behind a space. Apart from `Heights`: a type over both would need a trait of what is printed of a cell.
 #[derive(Clone, Copy)]
 struct Numbers<'a>(&'a [i32]);
 

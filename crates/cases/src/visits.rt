@@ -10,6 +10,7 @@ use limits::Fault;
 
 // A rack and its slate, and the slip of the visit that is open on them. It is not `Drop`: who takes it apart has first to end
 // that visit.
+// Not the bench of a job: that has one pair of sides and tells what each call leaves; this one opens with any sizes.
 pub(crate) struct Bench<'a, L: Level> {
     pub(crate) rack: Rack<'a, L>,
     pub(crate) slate: Slate<'a>,

@@ -56,6 +56,7 @@ fn command_on(line: &[u8]) -> Result<Command, Misfit>
     ensures answers { result ≡ command_on_lem line.now }
     ensures within { IfErr result (λ misfit. misfit.place ≤ length line.now) }
 {
+    // A match: the letters are the format.
     match line {
         [b'V', ..] => {
             let [flat] = numbers::<1>(line)?;

@@ -27,6 +27,7 @@ pub enum CardFault {
 
 impl CardFault {
     /// The fault's number, 12 to 17.
+    // By match: the variants carry a place, and only an enum of plain variants has a number by `as`.
     pub fn number(self) -> u32
         ensures { result ≡ card_fault_number self }
     {
@@ -41,7 +42,7 @@ impl CardFault {
     }
 
     /// The byte of the card at which the fault shows, counted from 0.
-    // 0 and no `Option` for `Length`, here and for the other faults: the printed line has a number there, 0 where there is no place.
+    // 0 and no `Option`: every refusal with a place has a number there, 0 where there is none, as the printed line has.
     pub fn place(self) -> usize
         ensures { result ≡ card_fault_place self }
     {
@@ -93,7 +94,7 @@ fn visit(card: &[u8], number: usize, flags: &mut [bool; 49]) -> Result<usize, Ca
 {
     let from = 3 * number - 2;
     let [column, row, next, ..] = &card[from..] else {
-        unreachable()
+        unreachable!()
     };
     let offset = read_offset(*column, *row, from)?;
     if *next > card[0] {
@@ -139,6 +140,7 @@ pub fn read_card(card: &[u8]) -> Result<Element, CardFault>
         return Err(CardFault::Length);
     }
     let mut flags = [false; 49];
+    // By record numbers: the chain is the card's format.
     let mut number = 1;
     loop {
         let next = visit(card, number, &mut flags)?;

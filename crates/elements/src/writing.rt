@@ -51,7 +51,7 @@ pub fn write_card(element: &Element, card: &mut [u8]) -> Result<(), CardFault>
         return Err(CardFault::Length);
     }
     card[0] = size;
-    // Counted by hand: with (1..=size).rev() zipped to the filtered places the proof did not close, as std has no lemmas on a reversed range.
+    // Counted by hand: tried with the numbers zipped to the places that are held, and the proof did not close.
     let mut number = size;
     let mut next = 0;
     for index in (0..49).rev() {

@@ -16,6 +16,7 @@ fn main(rt: HostRuntime) -> io::Result<()> {
     for line in BufReader::new(heap, rt.stdin())?.lines(heap) {
         let line = line?;
         let (word, text) = line.as_str().split_once(' ').unwrap_or((line.as_str(), ""));
+        // A match: the words are the format.
         match word {
             "#" => rt.println(line.as_str())?,
             "card" => card = unescape(heap, text)?,

@@ -6,12 +6,11 @@ use Rattle.levels.specs.Gray.{gray_height}
 use Rattle.limits.specs.declared.fault.Fault.{Fault}
 use Rattle.limits.specs.Faults.{unless}
 use Rattle.bench.specs.declared.rack.Rack.{Rack}
-use Rattle.bench.specs.Model.{Outline, State, rack_outline, rack_state, slate_outline, slate_state}
+use Rattle.bench.specs.Model.{Outline, State, rack_outline, rack_state, slate_outline, slate_state, slip_flat}
 use Rattle.bench.specs.declared.slate.Slate.{Slate}
 use Rattle.bench.specs.declared.slip.Slip.{Slip}
 use Rattle.bench.specs.Calls.{end_refusal, ended, stored}
 use Rattle.jobs.specs.declared.visits.JobBench.{JobBench}
-use Rattle.jobs.specs.Visits.{slip_flat}
 
 -- a call that fills a place, or is refused, keeps the sides and the visit
 record Keeps (was is : Outline) : Type 0 where

@@ -13,6 +13,7 @@ pub(crate) fn answer_line(
 ) -> Result<String, AllocError>
     ensures { IfOk result (λ s. string_bytes s ≡ answer_line_lem line answer) }
 {
+    // Not the `Answer` of cases: a job's refusal has a line, a layer and a place.
     match answer {
         Ok(None) => String::from_str(heap, "=\n"),
         Ok(Some(number)) => format!(in heap; "= {number}\n"),

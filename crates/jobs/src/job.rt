@@ -28,6 +28,7 @@ impl Job<'_, '_, '_> {
         ensures picture { self.new.picture.now ≡ self.old.picture.now }
     {
         let bench = &mut self.bench;
+        // A match: the line says which command.
         match command {
             Command::Begin { flat } => bench.begin(flat)?,
             Command::Load { place } => bench.rack.load(usize::from(place), self.picture)?,

@@ -65,7 +65,7 @@ fn run_picture(
         bench,
     };
     let printed = run_lines(heap, &mut job, input);
-    // The bench is let go here: the check covers no `drop` and no method that takes it by value.
+    // Taken apart: a slip's own drop asks for something, so the check covers no drop of a struct that holds one.
     let _ = job.bench.end();
     let Job {
         element: _,
@@ -77,7 +77,7 @@ fn run_picture(
         },
     } = job
     else {
-        unreachable()
+        unreachable!()
     };
     printed
 }
@@ -90,6 +90,7 @@ pub fn run_job(heap: Global, card: &[u8], file: &[u8], input: &[u8]) -> Result<S
 {
     match prepare(card, file) {
         Ok(job) => run_picture(heap, job.element, &file[job.start..], job.sides, input),
+        // Line 0 and no `Option`: the printed line has a number there, and the fault is of no line.
         Err(fault) => answer_line(heap, 0, Err(fault)),
     }
 }

@@ -3,10 +3,9 @@ ghost use Rattle.std.specs.Prelude.{◌≡◌, ◌*◌, length, None};
 ghost use Rattle.std.specs.Option.{unwrap_or};
 ghost use Rattle.std.proofs.Props.{props};
 ghost use Rattle.bench.specs.Calls.{begin_refusal, end_refusal, ended, visited};
-ghost use Rattle.bench.specs.Model.{rack_outline, rack_state, slate_outline, slate_state};
+ghost use Rattle.bench.specs.Model.{rack_outline, rack_state, slate_outline, slate_state, slip_flat};
 ghost use Rattle.jobs.specs.Commands.{benches};
 ghost use Rattle.jobs.specs.Runs.{opened_bench};
-ghost use Rattle.jobs.specs.Visits.{slip_flat};
 ghost use Rattle.levels.specs.Gray.{gray_height};
 ghost use Rattle.limits.specs.Faults.{told, unless};
 
@@ -57,7 +56,7 @@ impl JobBench<'_, '_> {
         let slip = begin(flat, &mut self.rack, &mut self.slate)?;
         match self.slip.replace(slip) {
             None => Ok(()),
-            Some(_) => unreachable(),
+            Some(_) => unreachable!(),
         }
     }
 
@@ -73,7 +72,7 @@ impl JobBench<'_, '_> {
         };
         match end(slip, &mut self.rack, &mut self.slate) {
             Ok(()) => Ok(()),
-            Err(_) => unreachable(),
+            Err(_) => unreachable!(),
         }
     }
 }

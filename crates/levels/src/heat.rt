@@ -8,6 +8,7 @@ use crate::level::Level;
 /// A heat level: blank, or a count c of sixteenths of a degree, −32,768 to 32,767.
 /// It is kept as its height, 0 for blank and c + 32,769 for a count, so that two levels are compared as
 /// two numbers and a loop over levels is vectorised.
+// A number and no enum: comparing an enum of blank and count has branches, and the loop is then not vectorised.
 #[derive(Clone, Copy, PartialEq, PartialOrd)]
 pub struct Heat {
     height: u32,

@@ -11,6 +11,7 @@ use elements::Element;
 use levels::level::Level;
 use limits::Fault;
 
+// w and h are plain numbers, here and in the other calls on lists: callers may hand in any, and are refused.
 /// Writes what an operation by an element makes of the sheet `from` of w × h levels to the list `to`.
 /// Refuses a side that is not 1 to 1,024 (1), then a list that has not w × h levels (4), and then leaves `to` as it was.
 pub fn operate<L: Level>(

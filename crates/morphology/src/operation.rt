@@ -4,7 +4,6 @@ ghost use Rattle.morphology.specs.Passes.{extreme, turned};
 
 use levels::level::Level;
 
-// An enum and no trait: the definitions are over it, a call carries it as a value, and the compiler takes the choice out of the loops.
 /// One of the two operations: erosion keeps the lower of two levels, dilation the higher.
 #[derive(Clone, Copy)]
 pub enum Operation {

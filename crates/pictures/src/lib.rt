@@ -29,6 +29,7 @@ pub enum PictureFault {
 
 impl PictureFault {
     /// The number of this refusal.
+    // By match: the variants carry a place, and only an enum of plain variants has a number by `as`.
     pub fn number(self) -> u32
         ensures { result ≡ picture_fault_number self }
     {
@@ -66,7 +67,7 @@ const WIDTH_AT: usize = 3;
 
 // What a header tells, and where the height stands in it.
 #[derive(Clone, Copy)]
-struct Sides {
+struct Header {
     width: u16,
     height: u16,
     height_at: usize,
@@ -85,12 +86,12 @@ pub fn read_picture(bytes: &[u8]) -> Result<Picture, PictureFault>
     ensures only { ReadsOnlyPictures }
     ensures wrong { RefusesWhatIsWrong }
 {
-    let sides = read_header(bytes)?;
-    check_size(sides, bytes)
+    let header = read_header(bytes)?;
+    check_size(header, bytes)
 }
 
 // The sides in the header that the file starts with.
-fn read_header(bytes: &[u8]) -> Result<Sides, Misfit>
+fn read_header(bytes: &[u8]) -> Result<Header, Misfit>
     ensures answers { MatchResult result (λ s. ScansAs bytes.now (Ok (record { numbers = s.width ∷ s.height ∷ []; end = s.start }))) (λ misfit. ScansAs bytes.now (Err misfit)) }
     ensures within { IfOk result (λ s. (s.height_at ≡ height_at_lem s.width) × (s.start ≤ length bytes.now)) }
 {
@@ -101,7 +102,7 @@ fn read_header(bytes: &[u8]) -> Result<Sides, Misfit>
     let height_at = scanner.at;
     let height = scanner.number(1)?;
     scanner.fixed(b"\n255\n")?;
-    Ok(Sides {
+    Ok(Header {
         width,
         height,
         height_at,
@@ -109,26 +110,27 @@ fn read_header(bytes: &[u8]) -> Result<Sides, Misfit>
     })
 }
 
-// The picture of these sides, in this file.
-fn check_size(sides: Sides, bytes: &[u8]) -> Result<Picture, PictureFault>
-    requires { (sides.height_at ≡ height_at_lem sides.width) × (sides.start ≤ length bytes.now) }
-    ensures { result ≡ sized sides.width sides.height sides.start (length bytes.now) }
+// The picture of this header, in this file.
+// Its sides are not tried by `limits::Sides`: the refusal tells at which digit the side stands.
+fn check_size(header: Header, bytes: &[u8]) -> Result<Picture, PictureFault>
+    requires { (header.height_at ≡ height_at_lem header.width) × (header.start ≤ length bytes.now) }
+    ensures { result ≡ sized header.width header.height header.start (length bytes.now) }
 {
-    if sides.width > LARGEST_SIDE {
+    if header.width > LARGEST_SIDE {
         return Err(PictureFault::Side(WIDTH_AT));
     }
-    if sides.height > LARGEST_SIDE {
-        return Err(PictureFault::Side(sides.height_at));
+    if header.height > LARGEST_SIDE {
+        return Err(PictureFault::Side(header.height_at));
     }
-    let width = usize::from(sides.width);
-    let height = usize::from(sides.height);
-    let end = sides.start + width * height;
+    let width = usize::from(header.width);
+    let height = usize::from(header.height);
+    let end = header.start + width * height;
     if bytes.len() != end {
         return Err(PictureFault::Length(bytes.len().min(end)));
     }
     Ok(Picture {
         width,
         height,
-        start: sides.start,
+        start: header.start,
     })
 }

@@ -20,10 +20,9 @@ fn places(element: &Element) -> u64 {
 
 // The places of the offsets of a card's element, or the number and the byte of its fault.
 fn outcome(card: &[u8]) -> Result<u64, (u32, usize)> {
-    match read_card(card) {
-        Ok(element) => Ok(places(&element)),
-        Err(fault) => Err((fault.number(), fault.place())),
-    }
+    read_card(card)
+        .map(|element| places(&element))
+        .map_err(|fault| (fault.number(), fault.place()))
 }
 
 // The card of all 49 offsets, in reading order.

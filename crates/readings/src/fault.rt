@@ -13,6 +13,7 @@ pub enum ReadingFault {
 
 impl ReadingFault {
     /// The fault's number: 3 for `Lengths` and 18 for `Unreadable`.
+    // By match: a variant carries an index, and only an enum of plain variants has a number by `as`.
     pub fn number(self) -> u32
         ensures { result ≡ reading_fault_number self }
     {
@@ -23,6 +24,7 @@ impl ReadingFault {
     }
 
     /// The index, from 0, of the reading at which the fault shows; 0 for `Lengths`.
+    // 0 and no `Option`: every refusal with a place has a number there, as in the other readers.
     pub fn place(self) -> usize
         ensures { result ≡ reading_fault_place self }
     {

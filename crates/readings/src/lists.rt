@@ -19,17 +19,14 @@ fn first_unreadable(readings: &[Reading]) -> Option<usize>
         .position(|reading| reading.level().is_none())
 }
 
-// Writes the levels that readings stand for. All readings were checked before, so that the levels stay where one is refused.
+// Writes the levels that readings stand for. All readings were checked before, so that the levels stay as they were where one is refused.
 fn write_levels(readings: &[Reading], levels: &mut [Heat])
     requires { (length readings.now ≡ length levels.old) × (AllByRecursion Readable readings.now) }
     ensures { ReadsAll readings.now (map heat_height levels.new) }
 {
     // By index, since after a zip with iter_mut a proof knows of a list no more than its length.
     for (index, reading) in readings.iter().enumerate() {
-        let Some(level) = reading.level() else {
-            unreachable()
-        };
-        levels[index] = level;
+        levels[index] = reading.level().unwrap();
     }
 }
 

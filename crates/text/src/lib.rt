@@ -14,6 +14,7 @@ pub struct Misfit {
 }
 
 /// A text, and the place up to which it has been read.
+// The place has no ghost field: a public call requires nothing of it, and the contracts tell what holds of any place.
 #[derive(Clone, Copy)]
 pub struct Scanner<'t> {
     pub bytes: &'t [u8],

@@ -19,15 +19,20 @@ returns-in_err-refuse_make g c =
       planes = rw told_back.1 refl;
     }
 
+pub invariant_of-sides : goal.invariant_of-sides
+invariant_of-sides g c =
+    let rack = c.args.self.now in
+    let accepted = make_accepted (rack_outline rack) c.args.one c.args.other c.args.to c.in_ok-refuse_make.ensures in
+    let some = some_cells rack.marks c.args.to accepted.to_place in
+    record { some_column = some.0; some_row = some.1; wide = rack.marks.wide; high = rack.marks.high }
+
 pub make_place-requires : goal.make_place-requires
 make_place-requires g c =
     let rack = c.args.self.now in
     let marks = rack.marks in
     let accepted = make_accepted (rack_outline rack) c.args.one c.args.other c.args.to c.in_ok-refuse_make.ensures in
-    let some = some_cells marks c.args.to accepted.to_place in
     let planes = rack.planes_sized (some_places marks c.args.to accepted.to_place) in
     record {
-      sides = (some.0, (marks.wide, (some.1, marks.high)));
       one = rw c.cells-cells.ensures (place_in_memory marks c.args.one accepted.one_place rack.sheets.now rack.sheets_sized);
       other = rw c.cells-cells.ensures (place_in_memory marks c.args.other accepted.other_place rack.sheets.now rack.sheets_sized);
       target = rw c.cells-cells.ensures (place_in_memory marks c.args.to accepted.to_place rack.sheets.now rack.sheets_sized);

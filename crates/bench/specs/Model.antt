@@ -1,5 +1,5 @@
 -- The state of a rack or a slate, as its users know it. Assumes nothing.
-use Rattle.std.specs.Prelude.{ℕ, ◌+◌, ◌-◌, ◌*◌, Bool, cond, ◌&&◌, List, [], ◌++◌, map, length, take, drop, ℤ, is_some, Some, None, Option, nat_le, slice_index_or}
+use Rattle.std.specs.Prelude.{◌≡◌, ℕ, ◌+◌, ◌-◌, ◌*◌, Bool, cond, ◌&&◌, List, [], ◌++◌, map, length, take, drop, ℤ, is_some, Some, None, Option, nat_le, slice_index_or}
 use Rattle.std.specs.Option.{unwrap_or}
 use Rattle.bench.specs.declared.marks.Marks.{Marks}
 use Rattle.bench.specs.declared.rack.Rack.{Rack}
@@ -35,6 +35,12 @@ cells_of cells k memory = take cells (drop (place_start cells k) memory)
 -- memory with other cells from a start on
 abbrev pub overwritten : {X : Type 0} → ℕ → List X → List X → List X
 overwritten start cells memory = take start memory ++ (cells ++ drop (start + length cells) memory)
+
+-- marks with the same sides and places
+pub record SameSizes {T : Type 0} (was is : Marks T) : Type 0 where
+  pub w : is.w ≡ was.w
+  pub h : is.h ≡ was.h
+  pub places : is.places ≡ was.places
 
 -- the outline that marks stand for
 abbrev pub outline_of : {T : Type 0} → Marks T → Outline

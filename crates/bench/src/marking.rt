@@ -2,7 +2,7 @@
 ghost use Rattle.std.specs.Prelude.{◌≡◌, ◌-◌, ◌*◌, ◌≤◌, true, replicate, is_some, Some, None, MatchResult, slice_index_or, slice_set};
 ghost use Rattle.bench.specs.Calls.{begin_refusal, end_refusal, equal_benches, load_refusal, make_refusal, source_refusal};
 ghost use Rattle.limits.specs.Faults.{told};
-ghost use Rattle.bench.specs.Model.{is_place, outline_of};
+ghost use Rattle.bench.specs.Model.{SameSizes, is_place, outline_of};
 
 use crate::marks::Marks;
 use limits::Fault;
@@ -80,9 +80,7 @@ impl<T: Copy> Marks<T> {
     pub(crate) fn fill(&mut self, place: usize, content: T)
         requires place { (1 ≤ place) × (place ≤ 12) }
         requires visit { is_some self.old.visit ≡ true }
-        ensures w { self.new.w ≡ self.old.w }
-        ensures h { self.new.h ≡ self.old.h }
-        ensures places { self.new.places ≡ self.old.places }
+        ensures sizes { SameSizes self.old self.new }
         ensures visit { self.new.visit ≡ self.old.visit }
         ensures filled { self.new.filled ≡ slice_set self.old.filled (place - 1) (Some content) }
     {
@@ -91,9 +89,7 @@ impl<T: Copy> Marks<T> {
 
     // Opens a visit.
     pub(crate) fn open(&mut self, flat: u16)
-        ensures w { self.new.w ≡ self.old.w }
-        ensures h { self.new.h ≡ self.old.h }
-        ensures places { self.new.places ≡ self.old.places }
+        ensures sizes { SameSizes self.old self.new }
         ensures visit { self.new.visit ≡ Some flat }
         ensures filled { self.new.filled ≡ self.old.filled }
     {
@@ -102,9 +98,7 @@ impl<T: Copy> Marks<T> {
 
     // Closes the visit and empties every place.
     pub(crate) fn clear(&mut self)
-        ensures w { self.new.w ≡ self.old.w }
-        ensures h { self.new.h ≡ self.old.h }
-        ensures places { self.new.places ≡ self.old.places }
+        ensures sizes { SameSizes self.old self.new }
         ensures visit { self.new.visit ≡ None }
         ensures filled { self.new.filled ≡ replicate 12 None }
     {

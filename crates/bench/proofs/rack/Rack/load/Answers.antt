@@ -27,5 +27,5 @@ returns-clause-steps g c =
     let written = c.store.ensures ∙ ap (λ n. overwritten ((c.args.place - 1) * n) c.args.picture.now rack.sheets.now) c.cells.ensures in
     ap (state_of c.fill.new.self) (ap (map height) written ∙ map-overwritten height (place_start (marks.w * marks.h) c.args.place) c.args.picture.now rack.sheets.now)
     ∙ stored_state marks c.args.place tt (map height c.args.picture.now) (map height rack.sheets.now) accepted.1
-    (length-map _ _ ∙ accepted.0) (length-map _ _ ∙ rack.sheets_sized) c.fill.new.self filled.w filled.h filled.places filled.visit filled.filled
+    (length-map _ _ ∙ accepted.0) (length-map _ _ ∙ rack.sheets_sized) c.fill.new.self filled.sizes.w filled.sizes.h filled.sizes.places filled.visit filled.filled
     ∙ accepted_leaves _ _ _ (passed ∙ heights)

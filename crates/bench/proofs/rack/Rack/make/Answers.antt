@@ -58,7 +58,7 @@ returns g c =
       answers = passed;
       steps =
           ap (state_of c.fill.new.self) written
-          ∙ stored_state marks c.args.to tt made heights accepted.to_place long (length-map _ _ ∙ rack.sheets_sized) c.fill.new.self filled.w filled.h filled.places filled.visit filled.filled
+          ∙ stored_state marks c.args.to tt made heights accepted.to_place long (length-map _ _ ∙ rack.sheets_sized) c.fill.new.self filled.sizes.w filled.sizes.h filled.sizes.places filled.visit filled.filled
           ∙ (λ i. stored (rack_state height rack) c.args.to (makes marks.w marks.h (one i) (other i)))
           ∙ accepted_leaves _ _ _ passed;
       memory = written;

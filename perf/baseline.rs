@@ -9,8 +9,8 @@ use std::time::Instant;
 const SQUARE: [(isize, isize); 9] =
     [(-1, -1), (0, -1), (1, -1), (-1, 0), (0, 0), (1, 0), (-1, 1), (0, 1), (1, 1)];
 
-// A level, as the number that it is kept as: its height. Heat is compared as a signed number here as in the repository,
-// since baseline x86-64 has no unsigned comparison of vectors; see docs/PERFORMANCE.md for what `u32` costs.
+// A level, as the number that it is kept as: its height. Heat is signed here, since baseline x86-64, for which `rustc -O` compiles,
+// has no unsigned comparison of vectors; the kit compiles for x86-64-v2, which has one. See docs/PERFORMANCE.md.
 trait Level: Copy + Ord + Default {
     fn height(self) -> u64;
 }

@@ -1,5 +1,5 @@
 -- Each number is read after its blank, and the line ends after the last.
-use Rattle.std.proofs.Common.{◌≡◌, [], ◌∷◌, length, Ok, Err, refl, arith, rules}
+use Rattle.std.proofs.Common.{◌≡◌, [], ◌∷◌, Ok, Err, refl, arith, rules}
 use Rattle.std.proofs.lemmas.Result.{err_from_is_err_and}
 use Rattle.text.specs.Pieces.{fixed_at, number_at}
 use Rattle.commands.proofs.Arguments.{none_read, refused_at_blank, refused_at_number, one_more_read, refused_after_last, all_read}

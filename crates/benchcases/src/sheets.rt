@@ -19,6 +19,7 @@ fn show_written<L: Level, F: FnOnce(&mut [L]) -> Result<(), Fault>>(
 }
 
 // The lengths of the sheet and its sides: first those that make a sheet, then each refusal.
+// A row of named fields takes five lines, and the loop names them.
 const SHEETS: [(usize, usize, usize); 16] = [
     (5, 5, 1),
     (5, 1, 5),

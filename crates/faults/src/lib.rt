@@ -47,6 +47,7 @@ impl JobFault {
     }
 
     /// The byte of the card or the picture, or the column of the line; 0 for the bench.
+    // 0 and no `Option`: the printed line has a number there, 0 for a fault of the bench.
     pub fn place(self) -> usize
         ensures { result ≡ job_fault_place self }
     {

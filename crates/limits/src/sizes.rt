@@ -6,6 +6,7 @@ ghost use Rattle.limits.specs.Sizes.{sizes_refusal};
 use crate::fault::Fault;
 use crate::sides::Sides;
 
+// Plain numbers, here and in what opens a rack or a slate: callers may hand in any, and a type would ask more of them.
 /// Whether memory of `len` cells serves that many places of w × h cells, with `working` working planes behind them.
 /// Refuses a side that is not 1 to 1,024 (1), a number of places that is not 1 to 12 (2), and then a length that is not
 /// (places + working) × w × h (3).

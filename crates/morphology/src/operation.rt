@@ -23,6 +23,7 @@ impl Operation {
         }
     }
 
+    // A switch, as in `kept`.
     // The offset's side, told as 0 to 6, at which the operation reads: dilation reads at the opposite one.
     pub(crate) fn turned(self, side: usize) -> usize
         requires { side ≤ 6 }

@@ -10,7 +10,7 @@ pub(crate) fn combine<L: Level>(op: Operation, others: &[L], cells: &mut [L])
     requires { length others.now ≡ length cells.old }
     ensures { map L.height cells.new ≡ combined op (map L.height cells.old) (map L.height others.now) }
 {
-    // By number, since a proof knows nothing of the cells that a loop over `cells.iter_mut().zip(others)` wrote.
+    // The others by place: tried with a zip, after which a proof knows no more of the cells than their length.
     for (k, cell) in cells.iter_mut().enumerate() {
         *cell = op.kept(*cell, others[k]);
     }

@@ -1,20 +1,19 @@
-// The program benchcases: makes calls on the bench at every level kind, and prints what each answers.
+// The program benchcases: tries sizes, and at every level kind erosion and dilation of lists and crossed slips and slates, and prints
+// what each answers.
 #![tactic(auto)]
 
 mod crossing;
-mod sequences;
 mod sheets;
 mod sizes;
 
 use cases::{Cases, Kind, run_at_every_kind};
 use crossing::cross_visits;
 use levels::level::Level;
-use sequences::make_sequences;
 use sheets::operate_all;
 use sizes::check_sizes;
 use std::io;
 
-// At a level kind, erosion and dilation, the sequences of calls, and crossed slips and slates.
+// At a level kind, erosion and dilation, and crossed slips and slates.
 struct BenchCases;
 
 impl Cases for BenchCases {
@@ -22,7 +21,6 @@ impl Cases for BenchCases {
         let title = kind.title;
         println!(rt; "# {title}: erosion and dilation")?;
         operate_all(rt, kind)?;
-        make_sequences(rt, kind)?;
         println!(rt; "# {title}: crossed slips and slates")?;
         cross_visits::<L>(rt)
     }

@@ -1,22 +1,36 @@
-// The program callcases: makes the calls that work cell by cell at every level kind, and prints what each answers.
+// The program callcases: makes the calls of its input at every level kind, and prints each beside its answer.
 #![tactic(auto)]
 
+mod line;
+mod making;
+mod reply;
 mod sequences;
+mod visits;
 
 use cases::{Cases, Kind, run_at_every_kind};
 use levels::level::Level;
-use sequences::SEQUENCES;
+use sequences::make_sequence;
 use std::io;
 
-// At a level kind, the answers to the sequences, and the sums of the memory after each.
-struct CallCases;
+// At a level kind, the sequences of calls of the input, with an empty line between two.
+#[derive(Clone, Copy)]
+struct CallCases<'a> {
+    input: &'a str,
+}
 
-impl Cases for CallCases {
+impl Cases for CallCases<'_> {
     fn run<L: Level>(&self, rt: &HostRuntime, kind: &Kind<'_, L>) -> io::Result<()> {
-        kind.make_sequences(rt, &SEQUENCES)
+        for sequence in self.input.split("\n\n") {
+            make_sequence(rt, kind, sequence)?;
+        }
+        Ok(())
     }
 }
 
 fn main(rt: HostRuntime) -> io::Result<()> {
-    run_at_every_kind(&rt, &CallCases)
+    let input = io::read_to_string(rt.alloc(), rt.stdin())?;
+    let cases = CallCases {
+        input: input.as_str(),
+    };
+    run_at_every_kind(&rt, &cases)
 }

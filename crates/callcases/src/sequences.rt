@@ -1,281 +1,70 @@
 // Sequences of calls on a rack and its slate.
-use cases::{Call, ROW, Sequence, Sizes, TALLY};
+use crate::line::Line;
+use crate::making::make;
+use crate::visits::Bench;
+use cases::Kind;
+use levels::level::Level;
+use std::io;
 
-// Calls that work cell by cell: every refusal in its order, the ends of every range, and each way in which places may be
-// the same.
-const CELLS: [Call; 77] = [
-    Call::Show { place: 0, len: 4 },
-    Call::Show { place: 0, len: 5 },
-    Call::Show { place: 1, len: 5 },
-    Call::ShowTally { place: 0, len: 4 },
-    Call::ShowTally { place: 0, len: 5 },
-    Call::ShowTally { place: 2, len: 5 },
-    Call::ShowTally { place: 1, len: 5 },
-    Call::Cut {
-        place: 0,
-        height: 0,
-        len: 4,
-    },
-    Call::Cut {
-        place: 0,
-        height: 0,
-        len: 5,
-    },
-    Call::Cut {
-        place: 1,
-        height: 0,
-        len: 5,
-    },
-    Call::Cut {
-        place: 1,
-        height: 1,
-        len: 5,
-    },
-    Call::Meet {
-        one: 0,
-        other: 1,
-        to: 1,
-    },
-    Call::Meet {
-        one: 1,
-        other: 0,
-        to: 1,
-    },
-    Call::Meet {
-        one: 1,
-        other: 1,
-        to: 0,
-    },
-    Call::Meet {
-        one: 1,
-        other: 2,
-        to: 3,
-    },
-    Call::Join {
-        one: 1,
-        other: 1,
-        to: 5,
-    },
-    Call::Join {
-        one: 1,
-        other: 1,
-        to: 1,
-    },
-    Call::Span(0),
-    Call::Span(1),
-    Call::Begin(7),
-    Call::Show { place: 1, len: 6 },
-    Call::Show { place: 5, len: 5 },
-    Call::Show { place: 1, len: 5 },
-    Call::ShowTally { place: 1, len: 6 },
-    Call::ShowTally { place: 2, len: 5 },
-    Call::ShowTally { place: 1, len: 5 },
-    Call::Cut {
-        place: 5,
-        height: 0,
-        len: 5,
-    },
-    Call::Cut {
-        place: 1,
-        height: u32::MAX,
-        len: 5,
-    },
-    Call::Cut {
-        place: 1,
-        height: 1,
-        len: 5,
-    },
-    Call::Meet {
-        one: 5,
-        other: 1,
-        to: 1,
-    },
-    Call::Meet {
-        one: 1,
-        other: 2,
-        to: 3,
-    },
-    Call::Span(usize::MAX),
-    Call::Span(4),
-    Call::Load { place: 1, len: 5 },
-    Call::Show { place: 1, len: 0 },
-    Call::Show { place: 1, len: 4 },
-    Call::Show { place: 1, len: 5 },
-    Call::Show { place: 1, len: 6 },
-    Call::Cut {
-        place: 1,
-        height: 0,
-        len: 5,
-    },
-    Call::Cut {
-        place: 1,
-        height: 1,
-        len: 5,
-    },
-    Call::Cut {
-        place: 1,
-        height: 2,
-        len: 5,
-    },
-    Call::Cut {
-        place: 1,
-        height: 255,
-        len: 5,
-    },
-    Call::Cut {
-        place: 1,
-        height: 256,
-        len: 5,
-    },
-    Call::Cut {
-        place: 1,
-        height: 65_536,
-        len: 5,
-    },
-    Call::Cut {
-        place: 1,
-        height: 65_537,
-        len: 5,
-    },
-    Call::Cut {
-        place: 1,
-        height: 1,
-        len: 4,
-    },
-    Call::Span(1),
-    Call::Meet {
-        one: 1,
-        other: 2,
-        to: 3,
-    },
-    Call::Meet {
-        one: 2,
-        other: 1,
-        to: 3,
-    },
-    Call::Join {
-        one: 2,
-        other: 2,
-        to: 3,
-    },
-    Call::Erode { from: 1, to: 2 },
-    Call::Span(2),
-    Call::Meet {
-        one: 1,
-        other: 2,
-        to: 3,
-    },
-    Call::Show { place: 3, len: 5 },
-    Call::Join {
-        one: 1,
-        other: 2,
-        to: 4,
-    },
-    Call::Show { place: 4, len: 5 },
-    Call::Join {
-        one: 2,
-        other: 3,
-        to: 3,
-    },
-    Call::Show { place: 3, len: 5 },
-    Call::Dilate { from: 1, to: 4 },
-    Call::Span(4),
-    Call::Meet {
-        one: 4,
-        other: 1,
-        to: 4,
-    },
-    Call::Show { place: 4, len: 5 },
-    Call::Join {
-        one: 1,
-        other: 1,
-        to: 2,
-    },
-    Call::Show { place: 2, len: 5 },
-    Call::Meet {
-        one: 3,
-        other: 2,
-        to: 2,
-    },
-    Call::Show { place: 2, len: 5 },
-    Call::Join {
-        one: 3,
-        other: 3,
-        to: 3,
-    },
-    Call::Show { place: 3, len: 5 },
-    Call::Meet {
-        one: 1,
-        other: 3,
-        to: 1,
-    },
-    Call::Show { place: 1, len: 5 },
-    Call::Join {
-        one: 1,
-        other: 4,
-        to: 5,
-    },
-    Call::ShowTally { place: 1, len: 5 },
-    Call::End,
-    Call::Show { place: 1, len: 5 },
-    Call::Cut {
-        place: 1,
-        height: 1,
-        len: 5,
-    },
-    Call::Span(1),
-    Call::Meet {
-        one: 1,
-        other: 1,
-        to: 1,
-    },
-];
+// Prints the sum of the heights in a memory and the sum of its numbers, which are not below 0. `sum` would need a bound on them,
+// and `saturating_add` needs none.
+fn print_memory<L: Level>(rt: &HostRuntime, levels: &[L], numbers: &[i32]) -> io::Result<()> {
+    let heights = levels.iter().fold(
+        0_u64,
+        |sum, level| sum.saturating_add(u64::from(level.height())),
+    );
+    let sum = numbers
+        .iter()
+        .fold(0_i32, |sum, number| sum.saturating_add(*number));
+    println!(rt; "memory {heights} {sum}")
+}
 
-// Sheets of more than one row.
-const ROWS: [Call; 10] = [
-    Call::Begin(7),
-    Call::Load { place: 1, len: 4 },
-    Call::Show { place: 1, len: 4 },
-    Call::Span(1),
-    Call::Erode { from: 1, to: 2 },
-    Call::Span(2),
-    Call::Meet {
-        one: 1,
-        other: 2,
-        to: 2,
-    },
-    Call::Cut {
-        place: 2,
-        height: 1,
-        len: 4,
-    },
-    Call::Show { place: 2, len: 5 },
-    Call::End,
-];
+// Makes calls one after another, and prints each with its answer.
+fn make_all<L: Level>(
+    rt: &HostRuntime,
+    kind: &Kind<'_, L>,
+    bench: &mut Bench<'_, L>,
+    calls: &str,
+) -> io::Result<()> {
+    for call in calls.lines() {
+        let line = Line::read(rt.alloc(), call)?;
+        let reply = make(rt.alloc(), kind, bench, &line)?;
+        println!(rt; "{call}: {reply}")?;
+    }
+    Ok(())
+}
 
-const SQUARE_RACK: Sizes = Sizes {
-    w: 2,
-    h: 2,
-    places: 2,
-    len: 16,
-};
+// The first line of a text, and the lines behind it.
+fn split_line(text: &str) -> (&str, &str) {
+    text.split_once('\n').unwrap_or((text, ""))
+}
 
-const SQUARE_SLATE: Sizes = Sizes {
-    len: 8,
-    ..SQUARE_RACK
-};
-
-pub(crate) const SEQUENCES: [Sequence<'static>; 2] = [
-    Sequence {
-        title: "cell by cell",
-        calls: &CELLS,
-        rack: ROW,
-        slate: TALLY,
-    },
-    Sequence {
-        title: "two rows",
-        calls: &ROWS,
-        rack: SQUARE_RACK,
-        slate: SQUARE_SLATE,
-    },
-];
+// Makes the calls of a sequence on a rack in memory of highest levels and a slate in memory of numbers 7: three lines with its title
+// and the sizes of the rack and of the slate, and then a line for each call. Prints the titles, each call with its answer,
+// and the sums of the memory after them. A visit that is open at the end is ended silently.
+pub(crate) fn make_sequence<L: Level>(
+    rt: &HostRuntime,
+    kind: &Kind<'_, L>,
+    sequence: &str,
+) -> io::Result<()> {
+    let (title, rest) = split_line(sequence);
+    let (rack, rest) = split_line(rest);
+    let (slate, calls) = split_line(rest);
+    let heap = rt.alloc();
+    println!(rt; "{title} ({})", kind.title)?;
+    let rack = Line::read(heap, rack)?.sizes("rack")?;
+    let slate = Line::read(heap, slate)?.sizes("slate")?;
+    let mut levels = vec![in heap; L::highest(); rack.len]?;
+    let mut numbers = vec![in heap; 7; slate.len]?;
+    let mut bench = Bench::open(levels.as_mut_slice(), rack, numbers.as_mut_slice(), slate);
+    let printed = make_all(rt, kind, &mut bench, calls);
+    let _ = bench.end();
+    // Taken apart: a slip's own drop asks for something, so the check covers no drop of a struct that holds one.
+    let Bench {
+        rack: _,
+        slate: _,
+        slip: _,
+    } = bench;
+    printed?;
+    print_memory(rt, levels.as_slice(), numbers.as_slice())
+}

@@ -8,7 +8,7 @@ use Rattle.morphology.specs.Cells.{extreme_of, first_place}
 use Rattle.morphology.specs.Passes.{extreme}
 use Rattle.morphology.proofs.Extremes.{absorbs_right, absorbs_start}
 use Rattle.calls.specs.Told.{SpotsAreFirstExtremes}
-use Rattle.calls.proofs.Reading.{fold_is_extreme}
+use Rattle.calls.proofs.Folds.{fold_is_extreme}
 
 -- the extreme of two heights is one of them
 one_of_two : (op : Operation) (x y : ℕ) → (extreme op x y ≡ x) ⊎ (extreme op x y ≡ y)

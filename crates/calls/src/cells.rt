@@ -3,7 +3,6 @@ ghost use Rattle.std.specs.Prelude.{◌≡◌, ◌≤◌, map, length, if◌then
 ghost use Rattle.calls.specs.Told.{extreme_spot, spot_numbers};
 ghost use Rattle.levels.specs.Mask.{mask_height};
 ghost use Rattle.morphology.specs.Cells.{cut, extreme_of, first_place};
-ghost use Rattle.morphology.specs.declared.operation.Operation.TheVariants.{Erosion, Dilation};
 
 use crate::spot::Spot;
 use levels::Mask;
@@ -56,7 +55,7 @@ fn place_of<L: Level>(sheet: &[L], level: L) -> usize
 }
 
 // The first spot of a sheet's least level for erosion, of its greatest for dilation.
-fn spot_of<L: Level>(op: Operation, sheet: &[L], w: usize) -> Spot<L>
+pub(crate) fn spot_of<L: Level>(op: Operation, sheet: &[L], w: usize) -> Spot<L>
     requires { (1 ≤ length sheet.now) × (1 ≤ w) }
     ensures { spot_numbers L.height result ≡ extreme_spot op w (map L.height sheet.now) }
 {
@@ -67,15 +66,4 @@ fn spot_of<L: Level>(op: Operation, sheet: &[L], w: usize) -> Spot<L>
         row: place / w,
         level,
     }
-}
-
-// The first spots of a sheet's least and of its greatest level.
-pub(crate) fn spots_of<L: Level>(sheet: &[L], w: usize) -> (Spot<L>, Spot<L>)
-    requires { (1 ≤ length sheet.now) × (1 ≤ w) }
-    ensures least { spot_numbers L.height result.0 ≡ extreme_spot Erosion w (map L.height sheet.now) }
-    ensures greatest { spot_numbers L.height result.1 ≡ extreme_spot Dilation w (map L.height sheet.now) }
-{
-    let least = spot_of(Operation::Erosion, sheet, w);
-    let greatest = spot_of(Operation::Dilation, sheet, w);
-    (least, greatest)
 }

@@ -6,22 +6,26 @@ ghost use Rattle.levels.specs.Mask.{mask_height};
 ghost use Rattle.limits.specs.Faults.{tells, told};
 ghost use Rattle.morphology.specs.Cells.{cut};
 
-use crate::cells::{spots_of, write_mask};
+use crate::cells::{spot_of, write_mask};
 use crate::spot::Spot;
 use bench::{Rack, Slate};
 use levels::Mask;
 use levels::level::Level;
 use limits::Fault;
+use morphology::Operation;
 
 /// Tells the span of the sheet in a place: the spots of its least and of its greatest level, each the first in reading order.
 /// Refuses a place that the rack has not (5), no visit open (31), and a place that is empty (34).
+#[tactic(auto, using(crate::proofs::Spots::spots_are_first_extremes))]
 pub fn span<L: Level>(rack: &Rack<'_, L>, place: usize) -> Result<(Spot<L>, Spot<L>), Fault>
     ensures answers { spots_told L.height result ≡ span_answer (rack_state L.height rack.now) place }
     ensures spots { SpotsAreFirstExtremes }
 {
     let sheet = rack.sheet(place)?;
     let (w, _, _) = rack.sizes();
-    Ok(spots_of(sheet, w))
+    let least = spot_of(Operation::Erosion, sheet, w);
+    let greatest = spot_of(Operation::Dilation, sheet, w);
+    Ok((least, greatest))
 }
 
 // The names of the three calls below are the users', and each tries the length of its own list first, by the order of refusals.

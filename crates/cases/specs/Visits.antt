@@ -1,14 +1,7 @@
--- The slip at hand is that of the visit on a rack and its slate. Assumes nothing.
-use Rattle.std.specs.Prelude.{◌≡◌, ℕ, true, is_some, Option}
-use Rattle.bench.specs.declared.slip.Slip.{Slip}
-use Rattle.bench.specs.Model.{Outline, slip_flat}
+-- What a rack and its slate have in common. Assumes nothing.
+use Rattle.std.specs.Prelude.{ℕ, Option}
+use Rattle.bench.specs.Model.{Outline}
 
 -- what a rack and its slate have in common during a visit: the visit, and the sides
 abbrev pub shared : Outline → Option ℕ × ℕ × ℕ
 shared o = (o.visit, o.w, o.h)
-
--- rack and slate have the visit of the slip, or none, and during a visit the same sides
-pub record Holds (slip : Option Slip) (rack slate : Outline) : Type 0 where
-  pub on_rack : rack.visit ≡ slip_flat slip
-  pub on_slate : slate.visit ≡ slip_flat slip
-  pub same : is_some slip ≡ true → shared rack ≡ shared slate

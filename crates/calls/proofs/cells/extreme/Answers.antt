@@ -3,7 +3,7 @@ use Rattle.std.proofs.lemmas.List.{length-map, take_all}
 use Rattle.std.proofs.lemmas.List.Sums.{fold_more}
 use Rattle.morphology.specs.Passes.{extreme}
 use Rattle.morphology.proofs.Passing.{height_read}
-use Rattle.calls.proofs.Reading.{fold_is_extreme}
+use Rattle.calls.proofs.Folds.{fold_is_extreme}
 use Rattle.calls.proofs.cells.extreme.Goals as goal
 
 pub loop-level-init : goal.loop-level-init

@@ -4,7 +4,7 @@ use Rattle.std.proofs.lemmas.Iterator.{YieldsList-from_slice}
 use Rattle.std.proofs.lemmas.Iterator.Search.{position_from_yields_List}
 use Rattle.std.proofs.lemmas.List.Sums.{prefix_len-le-length}
 use borrow.Author.Tests.{tests}
-use Rattle.calls.proofs.Reading.{first_place-position, told_or_end}
+use Rattle.calls.proofs.Folds.{first_place-position, told_or_end}
 use Rattle.calls.proofs.cells.place_of.Goals as goal
 
 pub returns : goal.returns

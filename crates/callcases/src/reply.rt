@@ -1,9 +1,6 @@
 // What the calls answer, with what they left in their lists.
-ghost use Rattle.std.specs.Prelude.{Some};
-ghost use Rattle.cases.specs.Texts.{numbers_text, reply_text, spot_text};
-
-use crate::answer::{Answer, Heights};
 use calls::Spot;
+use cases::{Answer, Heights};
 use levels::Mask;
 use levels::level::Level;
 use limits::Fault;
@@ -24,8 +21,6 @@ pub(crate) enum Reply<L> {
 struct Place<'a, L>(&'a Spot<L>);
 
 impl<L: Level> fmt::Display for Place<'_, L> {
-    ghost output = { λ place. Some (spot_text L.height place.0.now) };
-
     fn fmt<W: fmt::Write>(&self, f: &mut fmt::Formatter<W>) -> fmt::Result {
         let Spot { column, row, level } = *self.0;
         let height = level.height();
@@ -38,8 +33,6 @@ impl<L: Level> fmt::Display for Place<'_, L> {
 struct Numbers<'a>(&'a [i32]);
 
 impl fmt::Display for Numbers<'_> {
-    ghost output = { λ numbers. Some (numbers_text numbers.0.now) };
-
     fn fmt<W: fmt::Write>(&self, f: &mut fmt::Formatter<W>) -> fmt::Result {
         for number in self.0 {
             write!(f, " {number}")?;
@@ -49,8 +42,6 @@ impl fmt::Display for Numbers<'_> {
 }
 
 impl<L: Level> fmt::Display for Reply<L> {
-    ghost output = { λ reply. Some (reply_text L.height reply) };
-
     fn fmt<W: fmt::Write>(&self, f: &mut fmt::Formatter<W>) -> fmt::Result {
         match self {
             Reply::Told(answer) => write!(f, "{answer}"),

@@ -1,6 +1,6 @@
 use Rattle.std.proofs.Common.{length}
-use Rattle.cases.proofs.Slips.{opened_holds}
-use Rattle.cases.proofs.visits.Bench.open.Goals as goal
+use Rattle.callcases.proofs.Slips.{opened_holds}
+use Rattle.callcases.proofs.visits.Bench.open.Goals as goal
 
 pub invariant_of-result : goal.invariant_of-result
 invariant_of-result g c =

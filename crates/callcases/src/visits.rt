@@ -1,9 +1,9 @@
 // A rack and its slate, with the slip of the visit on them.
 ghost use Rattle.std.specs.Prelude.{◌≡◌, None};
 ghost use Rattle.bench.specs.Model.{rack_outline, slate_outline};
-ghost use Rattle.cases.specs.Visits.{Holds};
+ghost use Rattle.callcases.specs.Visits.{Holds};
 
-use crate::call::Sizes;
+use crate::line::Sizes;
 use bench::{Rack, Slate, Slip, begin, end};
 use levels::level::Level;
 use limits::Fault;

@@ -1,0 +1,85 @@
+// The making of a call.
+ghost use Rattle.std.specs.Prelude.{◌≡◌};
+ghost use Rattle.bench.specs.Model.{rack_outline};
+ghost use Rattle.cases.specs.Visits.{shared};
+
+use crate::line::Line;
+use crate::reply::Reply;
+use crate::visits::Bench;
+use bench::Rack;
+use calls::{cut, join, meet, show_sheet, show_tally, span};
+use cases::Kind;
+use levels::Mask;
+use levels::level::Level;
+use limits::Fault;
+use std::alloc::Global;
+use std::io;
+use std::io::ErrorKind;
+
+// Makes the call of a line that fills a place of a rack. Its last number tells how many levels a load takes: the first or the last
+// ones of the kind's picture, or highest ones.
+#[tactic(auto, using(crate::proofs::Slips::stored_shared, crate::proofs::Slips::operated_shared, crate::proofs::Slips::made_shared))]
+fn fill<L: Level>(
+    heap: Global,
+    kind: &Kind<'_, L>,
+    rack: &mut Rack<'_, L>,
+    line: &Line<'_>,
+) -> io::Result<Result<(), Fault>>
+    ensures { shared (rack_outline rack.new) ≡ shared (rack_outline rack.old) }
+{
+    // A match, here and below: the words are the format.
+    match (line.word, line.numbers.as_slice()) {
+        ("load", [place, len]) => Ok(rack.load(*place, kind.first(*len))),
+        ("load-last", [place, len]) => {
+            let (_, picture) = kind
+                .picture
+                .split_at(kind.picture.len().saturating_sub(*len));
+            Ok(rack.load(*place, picture))
+        }
+        ("load-highest", [place, len]) => {
+            let picture = vec![in heap; L::highest(); *len]?;
+            Ok(rack.load(*place, picture.as_slice()))
+        }
+        ("erode", [from, to]) => Ok(rack.erode(&kind.element, *from, *to)),
+        ("dilate", [from, to]) => Ok(rack.dilate(&kind.element, *from, *to)),
+        ("meet", [one, other, to]) => Ok(meet(rack, *one, *other, *to)),
+        ("join", [one, other, to]) => Ok(join(rack, *one, *other, *to)),
+        _ => Err(ErrorKind::InvalidInput.into()),
+    }
+}
+
+// Makes the call of a line. The last number of a call that writes a list is the list's length.
+#[tactic(auto, using(crate::proofs::Slips::shared_holds))]
+pub(crate) fn make<L: Level>(
+    heap: Global,
+    kind: &Kind<'_, L>,
+    bench: &mut Bench<'_, L>,
+    line: &Line<'_>,
+) -> io::Result<Reply<L>> {
+    match (line.word, line.numbers.as_slice()) {
+        ("begin", [flat]) => {
+            let flat = u16::try_from(*flat).map_err(|_| ErrorKind::InvalidInput)?;
+            Ok(Reply::Told(bench.begin(flat).into()))
+        }
+        ("end", []) => Ok(Reply::Told(bench.end().into())),
+        ("area", [place]) => Ok(Reply::Told(bench.rack.area(*place).into())),
+        ("span", [place]) => Ok(Reply::Span(span(&bench.rack, *place))),
+        ("show", [place, len]) => {
+            let mut list = vec![in heap; L::highest(); *len]?;
+            let answer = show_sheet(&bench.rack, *place, list.as_mut_slice());
+            Ok(Reply::Sheet(answer.into(), list))
+        }
+        ("show-tally", [place, len]) => {
+            let mut list = vec![in heap; 7; *len]?;
+            let answer = show_tally(&bench.slate, *place, list.as_mut_slice());
+            Ok(Reply::Tally(answer, list))
+        }
+        ("cut", [place, height, len]) => {
+            let height = u32::try_from(*height).map_err(|_| ErrorKind::InvalidInput)?;
+            let mut list = vec![in heap; Mask::Yes; *len]?;
+            let answer = cut(&bench.rack, *place, height, list.as_mut_slice());
+            Ok(Reply::Mask(answer.into(), list))
+        }
+        _ => Ok(Reply::Told(fill(heap, kind, &mut bench.rack, line)?.into())),
+    }
+}

@@ -2,4 +2,4 @@ pub mod Refusals
 pub mod Memory
 pub mod Opened
 pub mod Stored
-pub mod Racked
+pub mod Places

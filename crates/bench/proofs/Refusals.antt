@@ -1,11 +1,10 @@
 -- What a call leaves where it is refused and where it is not. Assumes nothing.
 use Rattle.std.proofs.Common.{◌≡◌, ℕ, ◌*◌, Bool, true, false, is_some, Some, None, Ok, Err, Option, sym, refl, ap, arith}
-use Rattle.std.proofs.Math.Bool.{and_self}
 use Rattle.std.proofs.lemmas.Bool.{not-false, eqb-true, and_parts}
 use Rattle.limits.specs.declared.fault.Fault.{Fault}
 use Rattle.limits.specs.Faults.{first}
 use Rattle.bench.specs.Model.{Outline, is_place}
-use Rattle.bench.specs.Calls.{load_refusal, make_refusal, source_refusal, transform_refusal}
+use Rattle.bench.specs.Calls.{load_refusal, make_refusal, source_refusal}
 use Rattle.limits.specs.Faults.{told, unless}
 
 pub refused_leaves : {S : Type 0} (o : Option Fault) (e : Fault) (new old : S) → Err e ≡ told o → old ≡ unless o new old
@@ -60,7 +59,3 @@ make_accepted o one other to h =
       one_filled = filled.0;
       other_filled = filled.1;
     }
-
--- a sheet made of the one in a place alone is refused as a call from that place is
-pub make_refuses_as_transform : (o : Outline) (from to : ℕ) → make_refusal o from from to ≡ transform_refusal o from to
-make_refuses_as_transform o from to = rw (and_self (is_place o.places from), and_self (o.filled from)) refl

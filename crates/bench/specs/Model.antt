@@ -1,6 +1,5 @@
 -- The state of a rack or a slate, as its users know it. Assumes nothing.
-use Rattle.std.specs.Prelude.{◌≡◌, ℕ, ◌+◌, ◌-◌, ◌*◌, Bool, cond, ◌&&◌, List, [], ◌++◌, map, length, take, drop, ℤ, is_some, Some, None, Option, nat_le, slice_index_or}
-use Rattle.std.specs.Option.{unwrap_or}
+use Rattle.std.specs.Prelude.{◌≡◌, ℕ, ◌+◌, ◌-◌, ◌*◌, Bool, cond, ◌&&◌, List, [], ◌++◌, map, length, take, drop, ℤ, is_some, Some, None, Option, nat_le, option_map, slice_index_or, unwrap_or}
 use Rattle.bench.specs.declared.marks.Marks.{Marks}
 use Rattle.bench.specs.declared.rack.Rack.{Rack}
 use Rattle.bench.specs.declared.slate.Slate.{Slate}
@@ -15,22 +14,34 @@ pub record Outline : Type 0 where
   pub visit : Option ℕ
   pub filled : ℕ → Bool
 
--- The outline and what each place holds: for a rack a sheet of heights, for a slate the cells of a tally, and nothing
--- where the place is empty.
-pub record State (X : Type 0) : Type 0 where
+-- A tally: a signed number for each cell, and a weight.
+pub record Tally : Type 0 where
+  pub cells : List ℤ
+  pub weight : ℕ
+
+-- The outline, and what each place holds or that it is empty: a place of a rack holds a sheet of heights, one of a slate a tally.
+pub record State (C : Type 0) : Type 0 where
   pub outline : Outline
-  pub content : ℕ → List X
+  pub content : ℕ → Option C
+
+-- the sheet in place k of a rack; no cells where the place is empty
+abbrev pub sheet_of : State (List ℕ) → ℕ → List ℕ
+sheet_of s k = unwrap_or (s.content k) []
 
 -- whether k is one of that many places, counted from 1
 abbrev pub is_place : ℕ → ℕ → Bool
 is_place places k = nat_le 1 k && nat_le k places
+
+-- so many cells of memory, from a start on
+abbrev pub cells_from : {X : Type 0} → ℕ → ℕ → List X → List X
+cells_from start cells memory = take cells (drop start memory)
 
 -- where the cells of place k begin, and which they are, where each place has so many cells
 abbrev pub place_start : ℕ → ℕ → ℕ
 place_start cells k = (k - 1) * cells
 
 abbrev pub cells_of : {X : Type 0} → ℕ → ℕ → List X → List X
-cells_of cells k memory = take cells (drop (place_start cells k) memory)
+cells_of cells k memory = cells_from (place_start cells k) cells memory
 
 -- memory with other cells from a start on
 abbrev pub overwritten : {X : Type 0} → ℕ → List X → List X → List X
@@ -42,6 +53,10 @@ pub record SameSizes {T : Type 0} (was is : Marks T) : Type 0 where
   pub h : is.h ≡ was.h
   pub places : is.places ≡ was.places
 
+-- what marks keep for place k, which is nothing where there is no such place or it is empty
+abbrev pub kept : {T : Type 0} → Marks T → ℕ → Option T
+kept m k = cond (is_place m.places k) (slice_index_or m.filled (k - 1) None) None
+
 -- the outline that marks stand for
 abbrev pub outline_of : {T : Type 0} → Marks T → Outline
 outline_of m = record {
@@ -49,14 +64,14 @@ outline_of m = record {
   h = m.h;
   places = m.places;
   visit = m.visit;
-  filled = λ k. is_place m.places k && is_some (slice_index_or m.filled (k - 1) None);
+  filled = λ k. is_some (kept m k);
 }
 
--- the state that marks and memory stand for
-abbrev pub state_of : {T X : Type 0} → Marks T → List X → State X
-state_of m memory = record {
+-- the state that marks and memory stand for, where a filled place holds what is made of that which is kept for it and of its cells
+abbrev pub state_of : {T X C : Type 0} → (T → List X → C) → Marks T → List X → State C
+state_of holds m memory = record {
   outline = outline_of m;
-  content = λ k. cond ((outline_of m).filled k) (cells_of (m.w * m.h) k memory) [];
+  content = λ k. option_map (λ t. holds t (cells_of (m.w * m.h) k memory)) (kept m k);
 }
 
 -- the outline of a rack and of a slate
@@ -66,20 +81,19 @@ rack_outline r = outline_of r.marks
 abbrev pub slate_outline : Slate → Outline
 slate_outline s = outline_of s.marks
 
--- the state of a rack whose levels have these heights, and of a slate
-abbrev pub rack_state : {L : Type 0} → (L → ℕ) → Rack L → State ℕ
-rack_state height r = state_of r.marks (map height r.sheets.now)
+-- the state of a rack whose levels have these heights: nothing is kept of a sheet beside its cells
+abbrev pub sheet_held : Unit {0} → List ℕ → List ℕ
+sheet_held nothing cells = cells
 
-abbrev pub slate_state : Slate → State ℤ
-slate_state s = state_of s.marks s.tallies.now
+abbrev pub rack_state : {L : Type 0} → (L → ℕ) → Rack L → State (List ℕ)
+rack_state height r = state_of sheet_held r.marks (map height r.sheets.now)
 
--- the sheet in place k of memory of heights
-abbrev pub sheet_in : {T : Type 0} → Marks T → List ℕ → ℕ → List ℕ
-sheet_in m heights k = cells_of (m.w * m.h) k heights
+-- the state of a slate: the weight of a tally is kept beside its cells
+abbrev pub tally_held : ℕ → List ℤ → Tally
+tally_held weight cells = record { cells = cells; weight = weight }
 
--- The weight of the tally in place k of a slate, 0 where it is empty. A tally is a signed number for each cell, and a weight.
-abbrev pub tally_weight : Slate → ℕ → ℕ
-tally_weight s k = unwrap_or (slice_index_or s.marks.filled (k - 1) None) 0
+abbrev pub slate_state : Slate → State Tally
+slate_state s = state_of tally_held s.marks s.tallies.now
 
 -- the flat on a slip, if there is one
 abbrev pub slip_flat : Option Slip → Option ℕ

@@ -1,8 +1,8 @@
 // What is read off marks, what they refuse, and how they change.
-ghost use Rattle.std.specs.Prelude.{◌≡◌, ◌-◌, ◌*◌, ◌≤◌, true, replicate, is_some, Some, None, MatchResult, slice_index_or, slice_set};
+ghost use Rattle.std.specs.Prelude.{◌≡◌, ◌-◌, ◌*◌, ◌≤◌, true, replicate, is_some, Some, None, MatchResult, slice_set};
 ghost use Rattle.bench.specs.Calls.{begin_refusal, end_refusal, equal_benches, load_refusal, make_refusal, source_refusal};
 ghost use Rattle.limits.specs.Faults.{told};
-ghost use Rattle.bench.specs.Model.{SameSizes, is_place, outline_of};
+ghost use Rattle.bench.specs.Model.{SameSizes, is_place, kept, outline_of};
 
 use crate::marks::Marks;
 use limits::Fault;
@@ -50,7 +50,7 @@ impl<T: Copy> Marks<T> {
     pub(crate) fn source(&self, place: usize, no_place: Fault, empty: Fault) -> Result<T, Fault>
         ensures { MatchResult result
             (λ content. (source_refusal no_place empty (outline_of self.now) place ≡ None)
-            × (slice_index_or self.now.filled (place - 1) None ≡ Some content))
+            × (kept self.now place ≡ Some content))
             (λ fault. source_refusal no_place empty (outline_of self.now) place ≡ Some fault) }
     {
         if !self.has_place(place) {

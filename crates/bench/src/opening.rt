@@ -1,7 +1,7 @@
 // How racks and slates are opened.
-ghost use Rattle.std.specs.Prelude.{◌≡◌, ℕ, ◌+◌, ◌*◌, ◌≤◌, ◌++◌, length, replicate, None};
+ghost use Rattle.std.specs.Prelude.{◌≡◌, ◌+◌, ◌*◌, ◌≤◌, ◌++◌, length, replicate, None};
 ghost use Rattle.bench.specs.Calls.{as_opened};
-ghost use Rattle.bench.specs.Model.{rack_state, slate_state, tally_weight};
+ghost use Rattle.bench.specs.Model.{rack_state, slate_state};
 ghost use Rattle.limits.specs.Faults.{unless};
 ghost use Rattle.limits.specs.Sizes.{sizes_refusal};
 
@@ -59,7 +59,6 @@ impl<'a> Slate<'a> {
     pub fn open(memory: &'a mut [i32], w: usize, h: usize, places: usize) -> Slate<'a>
         ensures state { slate_state result ≡ as_opened 0 w h places (length memory.old) }
         ensures memory { result.tallies.now ≡ memory.old }
-        ensures weights { (k : ℕ) → tally_weight result k ≡ 0 }
     {
         let marks = opened_marks(0, w, h, places, memory.len());
         Slate {

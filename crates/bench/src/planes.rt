@@ -1,6 +1,7 @@
 // Work on the cells of places and working planes, in the slices that a rack or a slate was lent.
-ghost use Rattle.std.specs.Prelude.{◌≡◌, ◌+◌, ◌*◌, ◌≤◌, map, length, take, drop};
-ghost use Rattle.bench.specs.Model.{overwritten};
+ghost use Rattle.std.specs.Prelude.{◌≡◌, ◌+◌, ◌*◌, ◌≤◌, map, length};
+ghost use Rattle.bench.specs.Calls.{made_from};
+ghost use Rattle.bench.specs.Model.{cells_from, overwritten};
 ghost use Rattle.morphology.specs.Sheets.{area};
 
 use levels::level::Level;
@@ -26,7 +27,7 @@ pub(crate) fn area_of<L: Level>(sheet: &[L]) -> u64
 // So many cells from a start on: all places lie in one lent slice, since the library has no heap.
 pub(crate) fn part<T>(memory: &[T], start: usize, cells: usize) -> &[T]
     requires { start + cells ≤ length memory.now }
-    ensures { result.now ≡ take cells (drop start memory.now) }
+    ensures { result.now ≡ cells_from start cells memory.now }
 {
     &memory[start..start + cells]
 }
@@ -38,27 +39,30 @@ pub(crate) fn make_place<T: Transform, L: Level>(
     sheets: &mut [L],
     planes: &mut [L],
     sides: Sides,
-    one: usize,
-    other: usize,
-    to: usize,
+    one_start: usize,
+    other_start: usize,
+    start: usize,
 )
-    requires one { one + sides.w * sides.h ≤ length sheets.old }
-    requires other { other + sides.w * sides.h ≤ length sheets.old }
-    requires target { to + sides.w * sides.h ≤ length sheets.old }
+    requires one { one_start + sides.w * sides.h ≤ length sheets.old }
+    requires other { other_start + sides.w * sides.h ≤ length sheets.old }
+    requires target { start + sides.w * sides.h ≤ length sheets.old }
     requires plane { sides.w * sides.h ≤ length planes.old }
-    ensures made { map L.height sheets.new ≡ overwritten to (T.makes transform.now sides.w sides.h (take (sides.w * sides.h) (drop one (map L.height sheets.old))) (take (sides.w * sides.h) (drop other (map L.height sheets.old)))) (map L.height sheets.old) }
-    ensures length { length (T.makes transform.now sides.w sides.h (take (sides.w * sides.h) (drop one (map L.height sheets.old))) (take (sides.w * sides.h) (drop other (map L.height sheets.old)))) ≡ sides.w * sides.h }
+    ensures made { map L.height sheets.new ≡ overwritten start
+        (made_from (T.makes transform.now) sides.w sides.h one_start other_start (map L.height sheets.old))
+        (map L.height sheets.old) }
+    ensures length { length (made_from (T.makes transform.now) sides.w sides.h one_start other_start (map L.height sheets.old))
+        ≡ sides.w * sides.h }
 {
     let cells = sides.cells();
     let plane = &mut planes[..cells];
     transform
         .transform(
-            part(sheets, one, cells),
-            part(sheets, other, cells),
+            part(sheets, one_start, cells),
+            part(sheets, other_start, cells),
             plane,
             sides.w,
             sides.h,
         )
         .unwrap();
-    store(sheets, to, plane);
+    store(sheets, start, plane);
 }

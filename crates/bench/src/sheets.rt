@@ -1,6 +1,6 @@
 // The calls on the sheets of a rack.
 ghost use Rattle.std.specs.Prelude.{◌≡◌, ◌*◌, ◌≤◌, map, length, Some, None, MatchResult};
-ghost use Rattle.bench.specs.Calls.{MakesSheet, OperatesOnSheet, area_answer, load_refusal, load_leaves, sheet_refusal};
+ghost use Rattle.bench.specs.Calls.{MakesSheet, area_answer, by_element, load_refusal, load_leaves, sheet_refusal};
 ghost use Rattle.limits.specs.Faults.{told};
 ghost use Rattle.bench.specs.Model.{overwritten, place_start, rack_outline, rack_state};
 ghost use Rattle.elements.specs.Elements.{offsets};
@@ -39,34 +39,29 @@ impl<L: Level> Rack<'_, L> {
         Ok(())
     }
 
-    // Fills a place with what an operation by an element makes of the sheet in another, or the same.
-    fn transform(
-        &mut self,
-        op: Operation,
-        element: &Element,
-        from: usize,
-        to: usize,
-    ) -> Result<(), Fault>
-        ensures { OperatesOnSheet L.height op (offsets element.now) self.old self.new from to result }
-    {
-        self.make(&ByElement { op, element }, from, from, to)
-    }
-
     // The names of the two calls are the users', so each stands over the one call.
     /// Fills the place `to` with the erosion by an element of the sheet in the place `from`, which may be the same.
     /// Refuses a place that the rack has not (5), no visit open (31), and a source place that is empty (34).
     pub fn erode(&mut self, element: &Element, from: usize, to: usize) -> Result<(), Fault>
-        ensures { OperatesOnSheet L.height Erosion (offsets element.now) self.old self.new from to result }
+        ensures { MakesSheet L.height (by_element Erosion (offsets element.now)) self.old self.new from from to result }
     {
-        self.transform(Operation::Erosion, element, from, to)
+        let transform = ByElement {
+            op: Operation::Erosion,
+            element,
+        };
+        self.make(&transform, from, from, to)
     }
 
     /// Fills the place `to` with the dilation by an element of the sheet in the place `from`, which may be the same.
     /// Refuses a place that the rack has not (5), no visit open (31), and a source place that is empty (34).
     pub fn dilate(&mut self, element: &Element, from: usize, to: usize) -> Result<(), Fault>
-        ensures { OperatesOnSheet L.height Dilation (offsets element.now) self.old self.new from to result }
+        ensures { MakesSheet L.height (by_element Dilation (offsets element.now)) self.old self.new from from to result }
     {
-        self.transform(Operation::Dilation, element, from, to)
+        let transform = ByElement {
+            op: Operation::Dilation,
+            element,
+        };
+        self.make(&transform, from, from, to)
     }
 
     /// Tells the area of the sheet in a place: the sum of its heights.
@@ -81,7 +76,8 @@ impl<L: Level> Rack<'_, L> {
     /// Refuses a place that the rack has not (5), no visit open (31), and a place that is empty (34).
     pub fn sheet(&self, place: usize) -> Result<&[L], Fault>
         ensures answers { MatchResult result
-            (λ sheet. (sheet_refusal (rack_outline self.now) place ≡ None) × (map L.height sheet.now ≡ (rack_state L.height self.now).content place))
+            (λ sheet. (sheet_refusal (rack_outline self.now) place ≡ None)
+            × ((rack_state L.height self.now).content place ≡ Some (map L.height sheet.now)))
             (λ fault. sheet_refusal (rack_outline self.now) place ≡ Some fault) }
         ensures sides { MatchResult result
             (λ sheet. (length sheet.now ≡ (rack_outline self.now).w * (rack_outline self.now).h)

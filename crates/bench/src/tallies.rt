@@ -1,7 +1,7 @@
 // The calls on the tallies of a slate.
 ghost use Rattle.std.specs.Prelude.{◌≡◌, ◌*◌, ◌≤◌, length, Some, None, MatchResult};
 ghost use Rattle.bench.specs.Calls.{tally_refusal};
-ghost use Rattle.bench.specs.Model.{slate_outline, slate_state, tally_weight};
+ghost use Rattle.bench.specs.Model.{slate_outline, slate_state};
 
 use crate::planes::part;
 use crate::slate::Slate;
@@ -21,8 +21,7 @@ impl Slate<'_> {
     pub fn tally(&self, place: usize) -> Result<(&[i32], u16), Fault>
         ensures answers { MatchResult result
             (λ tally. (tally_refusal (slate_outline self.now) place ≡ None)
-            × (tally.0.now ≡ (slate_state self.now).content place)
-            × (tally.1 ≡ tally_weight self.now place))
+            × ((slate_state self.now).content place ≡ Some (record { cells = tally.0.now; weight = tally.1 })))
             (λ fault. tally_refusal (slate_outline self.now) place ≡ Some fault) }
         ensures sides { MatchResult result
             (λ tally. length tally.0.now ≡ (slate_outline self.now).w * (slate_outline self.now).h)

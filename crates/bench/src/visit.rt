@@ -1,8 +1,7 @@
 // Visits: begin hands out a slip, and end takes it back and empties the bench.
-ghost use Rattle.std.specs.Prelude.{◌≡◌, ℕ, map, length, replicate, pos, Some, None, MatchResult};
-ghost use Rattle.bench.specs.Calls.{begin_refusal, end_refusal, ended, visited};
-ghost use Rattle.limits.specs.Faults.{unless};
-ghost use Rattle.bench.specs.Model.{rack_outline, rack_state, slate_outline, slate_state, tally_weight};
+ghost use Rattle.std.specs.Prelude.{◌≡◌, map, length, replicate, pos, Some, None, MatchResult};
+ghost use Rattle.bench.specs.Calls.{begin_leaves, begin_refusal, end_leaves, end_refusal};
+ghost use Rattle.bench.specs.Model.{rack_outline, rack_state, slate_outline, slate_state};
 
 use crate::rack::Rack;
 use crate::slate::Slate;
@@ -21,12 +20,13 @@ pub fn begin<L: Level>(
     ensures answers { MatchResult result
         (λ slip. (begin_refusal (rack_outline rack.old) (slate_outline slate.old) flat ≡ None) × (slip.flat ≡ flat))
         (λ fault. begin_refusal (rack_outline rack.old) (slate_outline slate.old) flat ≡ Some fault) }
-    ensures rack_steps { rack_state L.height rack.new ≡ unless (begin_refusal (rack_outline rack.old) (slate_outline slate.old) flat) (visited (rack_state L.height rack.old) flat) (rack_state L.height rack.old) }
-    ensures slate_steps { slate_state slate.new ≡ unless (begin_refusal (rack_outline rack.old) (slate_outline slate.old) flat) (visited (slate_state slate.old) flat) (slate_state slate.old) }
+    ensures rack_steps { rack_state L.height rack.new ≡
+        begin_leaves (rack_outline rack.old) (slate_outline slate.old) flat (rack_state L.height rack.old) }
+    ensures slate_steps { slate_state slate.new ≡
+        begin_leaves (rack_outline rack.old) (slate_outline slate.old) flat (slate_state slate.old) }
     ensures sheets { rack.new.sheets.now ≡ rack.old.sheets.now }
     ensures planes { rack.new.planes.now ≡ rack.old.planes.now }
     ensures tallies { slate.new.tallies.now ≡ slate.old.tallies.now }
-    ensures weights { (k : ℕ) → tally_weight slate.new k ≡ tally_weight slate.old k }
 {
     rack.marks.refuse_begin(&slate.marks, flat)?;
     rack.marks.open(flat);
@@ -46,8 +46,10 @@ pub fn end<L: Level>(
     ensures answers { MatchResult result
         (λ _. end_refusal (rack_outline rack.old) (slate_outline slate.old) slip.flat ≡ None)
         (λ e. (end_refusal (rack_outline rack.old) (slate_outline slate.old) slip.flat ≡ Some e.fault) × (e.slip ≡ slip)) }
-    ensures rack_steps { rack_state L.height rack.new ≡ unless (end_refusal (rack_outline rack.old) (slate_outline slate.old) slip.flat) (ended (rack_state L.height rack.old)) (rack_state L.height rack.old) }
-    ensures slate_steps { slate_state slate.new ≡ unless (end_refusal (rack_outline rack.old) (slate_outline slate.old) slip.flat) (ended (slate_state slate.old)) (slate_state slate.old) }
+    ensures rack_steps { rack_state L.height rack.new ≡
+        end_leaves (rack_outline rack.old) (slate_outline slate.old) slip.flat (rack_state L.height rack.old) }
+    ensures slate_steps { slate_state slate.new ≡
+        end_leaves (rack_outline rack.old) (slate_outline slate.old) slip.flat (slate_state slate.old) }
     ensures memory { MatchResult result
         (λ _. (map L.height rack.new.sheets.now ≡ replicate (length rack.old.sheets.now) 0)
         × (map L.height rack.new.planes.now ≡ replicate (length rack.old.planes.now) 0)
@@ -55,9 +57,6 @@ pub fn end<L: Level>(
         (λ _. (rack.new.sheets.now ≡ rack.old.sheets.now)
         × (rack.new.planes.now ≡ rack.old.planes.now)
         × (slate.new.tallies.now ≡ slate.old.tallies.now)) }
-    ensures weights { MatchResult result
-        (λ _. (k : ℕ) → tally_weight slate.new k ≡ 0)
-        (λ _. (k : ℕ) → tally_weight slate.new k ≡ tally_weight slate.old k) }
 {
     if let Err(fault) = rack.marks.refuse_end(&slate.marks, slip.flat) {
         return Err(EndRefused { slip, fault });

@@ -1,14 +1,13 @@
 -- The slip at hand is that of the visit: what an opening, an end and the calls on sheets keep. Assumes nothing.
-use Rattle.std.proofs.Common.{◌≡◌, ℕ, List, ℤ, Some, None, Option, Result, refl, ap, subst, sym, ◌∙◌, arith}
+use Rattle.std.proofs.Common.{◌≡◌, ℕ, List, Some, None, Option, Result, refl, ap, subst, sym, ◌∙◌, arith}
 use Rattle.std.proofs.lemmas.Bool.{eq-eqb}
 use Rattle.std.proofs.lemmas.Grind.{merely, not_there}
 use mathlib.Core.Logic.{∥∥₁_map}
 use Rattle.limits.specs.declared.fault.Fault.{Fault}
-use Rattle.morphology.specs.declared.operation.Operation.{Operation}
 use Rattle.bench.specs.declared.rack.Rack.{Rack}
 use Rattle.bench.specs.declared.slip.Slip.{Slip}
 use Rattle.bench.specs.Model.{Outline, State, rack_outline, rack_state}
-use Rattle.bench.specs.Calls.{MakesSheet, OperatesOnSheet, end_refusal, ended, opened, as_opened, stored}
+use Rattle.bench.specs.Calls.{Making, MakesSheet, end_refusal, ended, opened, as_opened, stored}
 use Rattle.limits.specs.Faults.{unless}
 use Rattle.limits.specs.Sizes.{sizes_refusal}
 use Rattle.cases.specs.Visits.{shared}
@@ -32,15 +31,11 @@ opened_holds r s w h places len w' h' places' len' rack slate =
     merely (free_holds r.outline s.outline (opened_free 2 w h places len r rack) (opened_free 0 w' h' places' len' s slate))
 
 -- a call that fills a place keeps the visit and the sides
-pub stored_shared : (o : Option Fault) (s after : State ℕ) (k : ℕ) (cells : List ℕ) → after ≡ unless o (stored s k cells) s → shared after.outline ≡ shared s.outline
+pub stored_shared : (o : Option Fault) (s after : State (List ℕ)) (k : ℕ) (cells : List ℕ) → after ≡ unless o (stored s k cells) s → shared after.outline ≡ shared s.outline
 stored_shared None s after k cells is = ap (λ t. shared t.outline) is
 stored_shared (Some f) s after k cells is = ap (λ t. shared t.outline) is
 
-pub operated_shared : {L : Type 0} (height : L → ℕ) (op : Operation) (offsets : List (ℤ × ℤ)) (was is : Rack L) (from to : ℕ) (answer : Result (Unit {0}) Fault)
-    → OperatesOnSheet height op offsets was is from to answer → shared (rack_outline is) ≡ shared (rack_outline was)
-operated_shared height op offsets was is from to answer h = stored_shared _ (rack_state height was) (rack_state height is) to _ h.steps
-
-pub made_shared : {L : Type 0} (height : L → ℕ) (made : ℕ → ℕ → List ℕ → List ℕ → List ℕ) (was is : Rack L) (one other to : ℕ) (answer : Result (Unit {0}) Fault)
+pub made_shared : {L : Type 0} (height : L → ℕ) (made : Making) (was is : Rack L) (one other to : ℕ) (answer : Result (Unit {0}) Fault)
     → MakesSheet height made was is one other to answer → shared (rack_outline is) ≡ shared (rack_outline was)
 made_shared height made was is one other to answer h = stored_shared _ (rack_state height was) (rack_state height is) to _ h.steps
 

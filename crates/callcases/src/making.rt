@@ -18,7 +18,7 @@ use std::io::ErrorKind;
 
 // Makes the call of a line that fills a place of a rack. Its last number tells how many levels a load takes: the first or the last
 // ones of the kind's picture, or highest ones.
-#[tactic(auto, using(crate::proofs::Slips::stored_shared, crate::proofs::Slips::operated_shared, crate::proofs::Slips::made_shared))]
+#[tactic(auto, using(crate::proofs::Slips::stored_shared, crate::proofs::Slips::made_shared))]
 fn fill<L: Level>(
     heap: Global,
     kind: &Kind<'_, L>,

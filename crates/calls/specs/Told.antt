@@ -1,4 +1,4 @@
--- The calls that tell or copy out what is on a bench: what each refuses, in the order of its table, and what it tells. Assumes nothing.
+-- The calls that tell or copy out what is on a bench: what each refuses, in order, and what it tells. Assumes nothing.
 use Rattle.std.specs.Prelude.{◌≡◌, ℕ, ◌+◌, ◌*◌, ◌/◌, ◌%◌, ◌<◌, ◌≤◌, not, ◌&&◌, ◌≢◌, List, length, Ok, Err, Option, Result, ◌==◌, nat_le, slice_index}
 use Rattle.limits.specs.declared.fault.Fault.{Fault}
 use Rattle.limits.specs.declared.fault.Fault.TheVariants.{Length, SheetPlace, FactorOrHeight}
@@ -7,7 +7,7 @@ use Rattle.morphology.specs.Cells.{extreme_of, first_place}
 use Rattle.morphology.specs.Passes.{extreme}
 use Rattle.morphology.specs.declared.operation.Operation.{Operation}
 use Rattle.morphology.specs.declared.operation.Operation.TheVariants.{Erosion, Dilation}
-use Rattle.bench.specs.Model.{Outline, State, is_place}
+use Rattle.bench.specs.Model.{Outline, State, is_place, sheet_of}
 use Rattle.bench.specs.Calls.{sheet_refusal, tally_refusal}
 use Rattle.calls.specs.declared.spot.Spot.{Spot}
 
@@ -43,12 +43,15 @@ pub record FirstExtreme (op : Operation) (w : ℕ) (f : List ℕ) (spot : ℕ ×
   pub extreme : (k : ℕ) → k < length f → extreme op spot.2 (slice_index f k) ≡ spot.2
   pub first : (k : ℕ) → k < spot.1 * w + spot.0 → slice_index f k ≢ spot.2
 
+-- the spots that are told of a sheet with cells are what the words say
 abbrev pub SpotsAreFirstExtremes : Type 0
 SpotsAreFirstExtremes = (op : Operation) (w : ℕ) (f : List ℕ) → 1 ≤ w → 1 ≤ length f → FirstExtreme op w f (extreme_spot op w f)
 
 -- span tells the least and the greatest
-abbrev pub span_answer : State ℕ → ℕ → Result ((ℕ × ℕ × ℕ) × (ℕ × ℕ × ℕ)) Fault
-span_answer s k = tells (sheet_refusal s.outline k) (extreme_spot Erosion s.outline.w (s.content k), extreme_spot Dilation s.outline.w (s.content k))
+abbrev pub span_answer : State (List ℕ) → ℕ → Result ((ℕ × ℕ × ℕ) × (ℕ × ℕ × ℕ)) Fault
+span_answer s k =
+    let sheet = sheet_of s k in
+    tells (sheet_refusal s.outline k) (extreme_spot Erosion s.outline.w sheet, extreme_spot Dilation s.outline.w sheet)
 
 -- what was told, with a height for each level
 abbrev pub spots_told : {L : Type 0} → (L → ℕ) → Result (Spot L × Spot L) Fault → Result ((ℕ × ℕ × ℕ) × (ℕ × ℕ × ℕ)) Fault

@@ -1,9 +1,9 @@
 // The calls that tell or copy out what is on a bench, which stays as it is.
-ghost use Rattle.std.specs.Prelude.{◌≡◌, map, length, MatchResult};
-ghost use Rattle.bench.specs.Model.{rack_outline, rack_state, slate_outline, slate_state, tally_weight};
+ghost use Rattle.std.specs.Prelude.{◌≡◌, map, length, None, Some, MatchResult};
+ghost use Rattle.bench.specs.Model.{rack_outline, rack_state, sheet_of, slate_outline, slate_state};
 ghost use Rattle.calls.specs.Told.{cut_refusal, show_sheet_refusal, show_tally_refusal, span_answer, spots_told, SpotsAreFirstExtremes};
 ghost use Rattle.levels.specs.Mask.{mask_height};
-ghost use Rattle.limits.specs.Faults.{tells, told};
+ghost use Rattle.limits.specs.Faults.{told};
 ghost use Rattle.morphology.specs.Cells.{cut};
 
 use crate::cells::{spot_of, write_mask};
@@ -35,7 +35,7 @@ pub fn span<L: Level>(rack: &Rack<'_, L>, place: usize) -> Result<(Spot<L>, Spot
 pub fn show_sheet<L: Level>(rack: &Rack<'_, L>, place: usize, list: &mut [L]) -> Result<(), Fault>
     ensures answers { result ≡ told (show_sheet_refusal (rack_outline rack.now) place (length list.old)) }
     ensures list { MatchResult result
-        (λ _. map L.height list.new ≡ (rack_state L.height rack.now).content place)
+        (λ _. (rack_state L.height rack.now).content place ≡ Some (map L.height list.new))
         (λ _. list.new ≡ list.old) }
 {
     let (w, h, _) = rack.sizes();
@@ -51,9 +51,11 @@ pub fn show_sheet<L: Level>(rack: &Rack<'_, L>, place: usize, list: &mut [L]) ->
 /// Refuses a list of another length (4), a place that the slate has not (6), no visit open on the slate (31), and a place
 /// that is empty (35), and then leaves the list as it was.
 pub fn show_tally(slate: &Slate<'_>, place: usize, list: &mut [i32]) -> Result<u16, Fault>
-    ensures answers { result ≡ tells (show_tally_refusal (slate_outline slate.now) place (length list.old)) (tally_weight slate.now place) }
+    ensures answers { MatchResult result
+        (λ _. show_tally_refusal (slate_outline slate.now) place (length list.old) ≡ None)
+        (λ fault. show_tally_refusal (slate_outline slate.now) place (length list.old) ≡ Some fault) }
     ensures list { MatchResult result
-        (λ _. list.new ≡ (slate_state slate.now).content place)
+        (λ weight. (slate_state slate.now).content place ≡ Some (record { cells = list.new; weight = weight }))
         (λ _. list.new ≡ list.old) }
 {
     let (w, h, _) = slate.sizes();
@@ -77,7 +79,7 @@ pub fn cut<L: Level>(
 ) -> Result<(), Fault>
     ensures answers { result ≡ told (cut_refusal L.top (rack_outline rack.now) place height (length mask.old)) }
     ensures list { MatchResult result
-        (λ _. map mask_height mask.new ≡ cut height ((rack_state L.height rack.now).content place))
+        (λ _. map mask_height mask.new ≡ cut height (sheet_of (rack_state L.height rack.now) place))
         (λ _. mask.new ≡ mask.old) }
 {
     let (w, h, places) = rack.sizes();

@@ -1,6 +1,6 @@
 -- The numbers of a command name the places that a call gets. Assumes nothing.
 use Rattle.std.proofs.Common.{◌≡◌, ℕ, List, ℤ, map, None, Err, sym, refl, ap, ◌∙◌}
-use Rattle.bench.specs.Calls.{operate_leaves, transform_refusal}
+use Rattle.bench.specs.Calls.{by_element, make_leaves, make_refusal}
 use Rattle.bench.specs.Model.{State, rack_state, slate_state}
 use Rattle.commands.specs.declared.Command.{Command}
 use Rattle.commands.specs.declared.Command.TheVariants.{Erode, Dilate}
@@ -20,30 +20,30 @@ asks_for Erosion from to = Erode from to
 asks_for Dilation from to = Dilate from to
 
 -- what such a command is refused and tells, and what it leaves
-refusal_asked : (op : Operation) (picture : List ℕ) (b : Benches) (from to : ℕ) → tells (command_refusal picture b (asks_for op from to)) (command_tells b (asks_for op from to)) ≡ tells (transform_refusal b.rack.outline from to) None
+refusal_asked : (op : Operation) (picture : List ℕ) (b : Benches) (from to : ℕ) → tells (command_refusal picture b (asks_for op from to)) (command_tells b (asks_for op from to)) ≡ tells (make_refusal b.rack.outline from from to) None
 refusal_asked Erosion picture b from to = refl
 refusal_asked Dilation picture b from to = refl
 
-leaves_asked : (op : Operation) (shape : List (ℤ × ℤ)) (picture : List ℕ) (b : Benches) (from to : ℕ) → command_leaves shape picture b (asks_for op from to) ≡ record { rack = operate_leaves op b.rack shape from to; slate = b.slate }
+leaves_asked : (op : Operation) (shape : List (ℤ × ℤ)) (picture : List ℕ) (b : Benches) (from to : ℕ) → command_leaves shape picture b (asks_for op from to) ≡ record { rack = make_leaves (by_element op shape) b.rack from from to; slate = b.slate }
 leaves_asked Erosion shape picture b from to = refl
 leaves_asked Dilation shape picture b from to = refl
 
 -- a refused operation tells and leaves what the command that asks for it does
 module _ (op : Operation) (job : Job) (command : Command) (from to at goal : ℕ) (asks : command ≡ asks_for op from to) (source : at ≡ from) (target : goal ≡ to) where
   pub operation_refused : (e : Fault) → let b = benches job.bench.rack job.bench.slate in
-      Err e ≡ told (transform_refusal b.rack.outline at goal) → Err e ≡ tells (command_refusal (map gray_height job.picture.now) b command) (command_tells b command)
+      Err e ≡ told (make_refusal b.rack.outline at at goal) → Err e ≡ tells (command_refusal (map gray_height job.picture.now) b command) (command_tells b command)
   operation_refused e refused =
       let b = benches job.bench.rack job.bench.slate in
       let picture = map gray_height job.picture.now in
-      refused_tells _ e None (refused ∙ (λ i. told (transform_refusal b.rack.outline (source i) (target i))))
+      refused_tells _ e None (refused ∙ (λ i. told (make_refusal b.rack.outline (source i) (source i) (target i))))
       ∙ sym (refusal_asked op picture b from to)
       ∙ sym (ap (λ m. tells (command_refusal picture b m) (command_tells b m)) asks)
 
-  pub operation_leaves : (after : State ℕ) → after ≡ operate_leaves op (rack_state gray_height job.bench.rack) (offsets job.element) at goal →
+  pub operation_leaves : (after : State (List ℕ)) → after ≡ make_leaves (by_element op (offsets job.element)) (rack_state gray_height job.bench.rack) at at goal →
       record { rack = after; slate = slate_state job.bench.slate } ≡ command_leaves (offsets job.element) (map gray_height job.picture.now) (benches job.bench.rack job.bench.slate) command
   operation_leaves after is =
       let b = benches job.bench.rack job.bench.slate in
       let picture = map gray_height job.picture.now in
-      (λ i. record { rack = (is ∙ (λ j. operate_leaves op b.rack (offsets job.element) (source j) (target j))) i; slate = b.slate })
+      (λ i. record { rack = (is ∙ (λ j. make_leaves (by_element op (offsets job.element)) b.rack (source j) (source j) (target j))) i; slate = b.slate })
       ∙ sym (leaves_asked op (offsets job.element) picture b from to)
       ∙ sym (ap (command_leaves (offsets job.element) picture b) asks)

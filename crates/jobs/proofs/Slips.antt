@@ -18,7 +18,7 @@ record Keeps (was is : Outline) : Type 0 where
   pub w : is.w ≡ was.w
   pub h : is.h ≡ was.h
 
-stored_keeps : (o : Option Fault) (s after : State ℕ) (k : ℕ) (cells : List ℕ) → after ≡ unless o (stored s k cells) s → Keeps s.outline after.outline
+stored_keeps : (o : Option Fault) (s after : State (List ℕ)) (k : ℕ) (cells : List ℕ) → after ≡ unless o (stored s k cells) s → Keeps s.outline after.outline
 stored_keeps None s after k cells is = record { visit = ap (λ t. t.outline.visit) is; w = ap (λ t. t.outline.w) is; h = ap (λ t. t.outline.h) is }
 stored_keeps (Some f) s after k cells is = record { visit = ap (λ t. t.outline.visit) is; w = ap (λ t. t.outline.w) is; h = ap (λ t. t.outline.h) is }
 

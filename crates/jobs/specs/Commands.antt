@@ -12,16 +12,15 @@ use Rattle.levels.specs.Gray.{gray_height}
 use Rattle.limits.specs.declared.fault.Fault.{Fault}
 use Rattle.bench.specs.declared.rack.Rack.{Rack}
 use Rattle.bench.specs.declared.slate.Slate.{Slate}
-use Rattle.bench.specs.Model.{State, rack_state, slate_state}
-use Rattle.bench.specs.Calls.{begin_refusal, end_refusal, ended, load_refusal, load_leaves, operate_leaves, transform_refusal, visited}
-use Rattle.limits.specs.Faults.{unless}
+use Rattle.bench.specs.Model.{State, Tally, rack_state, sheet_of, slate_state}
+use Rattle.bench.specs.Calls.{begin_leaves, begin_refusal, by_element, end_leaves, end_refusal, load_refusal, load_leaves, make_leaves, make_refusal, sheet_refusal}
 use Rattle.faults.specs.declared.JobFault.{JobFault}
 use Rattle.faults.specs.declared.JobFault.TheVariants.{Bench, Line}
 
 -- the bench of a job: its rack and its slate
 pub record Benches : Type 0 where
-  pub rack : State ℕ
-  pub slate : State ℤ
+  pub rack : State (List ℕ)
+  pub slate : State Tally
 
 -- the bench of a rack and a slate
 abbrev pub benches : Rack Gray → Slate → Benches
@@ -31,9 +30,9 @@ benches rack slate = record { rack = rack_state gray_height rack; slate = slate_
 abbrev pub command_refusal : List ℕ → Benches → Command → Option Fault
 command_refusal picture b (Begin flat) = begin_refusal b.rack.outline b.slate.outline flat
 command_refusal picture b (Load place) = load_refusal b.rack.outline place (length picture)
-command_refusal picture b (Erode from to) = transform_refusal b.rack.outline from to
-command_refusal picture b (Dilate from to) = transform_refusal b.rack.outline from to
-command_refusal picture b (Area place) = transform_refusal b.rack.outline place place
+command_refusal picture b (Erode from to) = make_refusal b.rack.outline from from to
+command_refusal picture b (Dilate from to) = make_refusal b.rack.outline from from to
+command_refusal picture b (Area place) = sheet_refusal b.rack.outline place
 command_refusal picture b End = end_refusal b.rack.outline b.slate.outline (unwrap_or b.rack.outline.visit 0)
 
 -- the number that an accepted command tells, if it tells one
@@ -42,7 +41,7 @@ command_tells b (Begin flat) = None
 command_tells b (Load place) = None
 command_tells b (Erode from to) = None
 command_tells b (Dilate from to) = None
-command_tells b (Area place) = Some (area (b.rack.content place))
+command_tells b (Area place) = Some (area (sheet_of b.rack place))
 command_tells b End = None
 
 -- the answer to a command
@@ -56,15 +55,20 @@ command_answer picture b command = answered (command_refusal picture b command) 
 -- the bench after a command, by an element of these offsets
 abbrev pub command_leaves : List (ℤ × ℤ) → List ℕ → Benches → Command → Benches
 command_leaves offsets picture b (Begin flat) =
-    let refused = begin_refusal b.rack.outline b.slate.outline flat in
-    record { rack = unless refused (visited b.rack flat) b.rack; slate = unless refused (visited b.slate flat) b.slate }
+    record {
+      rack = begin_leaves b.rack.outline b.slate.outline flat b.rack;
+      slate = begin_leaves b.rack.outline b.slate.outline flat b.slate;
+    }
 command_leaves offsets picture b (Load place) = record { rack = load_leaves b.rack place picture; slate = b.slate }
-command_leaves offsets picture b (Erode from to) = record { rack = operate_leaves Erosion b.rack offsets from to; slate = b.slate }
-command_leaves offsets picture b (Dilate from to) = record { rack = operate_leaves Dilation b.rack offsets from to; slate = b.slate }
+command_leaves offsets picture b (Erode from to) = record { rack = make_leaves (by_element Erosion offsets) b.rack from from to; slate = b.slate }
+command_leaves offsets picture b (Dilate from to) = record { rack = make_leaves (by_element Dilation offsets) b.rack from from to; slate = b.slate }
 command_leaves offsets picture b (Area place) = b
 command_leaves offsets picture b End =
-    let refused = end_refusal b.rack.outline b.slate.outline (unwrap_or b.rack.outline.visit 0) in
-    record { rack = unless refused (ended b.rack) b.rack; slate = unless refused (ended b.slate) b.slate }
+    let flat = unwrap_or b.rack.outline.visit 0 in
+    record {
+      rack = end_leaves b.rack.outline b.slate.outline flat b.rack;
+      slate = end_leaves b.rack.outline b.slate.outline flat b.slate;
+    }
 
 -- the answer to a line, and the bench after it: a line that is no command is refused and leaves the bench as it is
 abbrev pub answer_to : List ℕ → Benches → Result Command LineFault → Result (Option ℕ) JobFault

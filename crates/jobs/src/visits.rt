@@ -2,12 +2,12 @@
 ghost use Rattle.std.specs.Prelude.{◌≡◌, ◌*◌, length, None};
 ghost use Rattle.std.specs.Option.{unwrap_or};
 ghost use Rattle.std.proofs.Props.{props};
-ghost use Rattle.bench.specs.Calls.{begin_refusal, end_refusal, ended, visited};
+ghost use Rattle.bench.specs.Calls.{begin_leaves, begin_refusal, end_leaves, end_refusal};
 ghost use Rattle.bench.specs.Model.{rack_outline, rack_state, slate_outline, slate_state, slip_flat};
 ghost use Rattle.jobs.specs.Commands.{benches};
 ghost use Rattle.jobs.specs.Runs.{opened_bench};
 ghost use Rattle.levels.specs.Gray.{gray_height};
-ghost use Rattle.limits.specs.Faults.{told, unless};
+ghost use Rattle.limits.specs.Faults.{told};
 
 use bench::{Rack, Slate, Slip, begin, end};
 use levels::Gray;
@@ -50,8 +50,10 @@ impl JobBench<'_, '_> {
     // Begins a visit, and keeps its slip; with a slip at hand begin is refused.
     pub(crate) fn begin(&mut self, flat: u16) -> Result<(), Fault>
         ensures answers { result ≡ told (begin_refusal (rack_outline self.old.rack) (slate_outline self.old.slate) flat) }
-        ensures rack_steps { rack_state gray_height self.new.rack ≡ unless (begin_refusal (rack_outline self.old.rack) (slate_outline self.old.slate) flat) (visited (rack_state gray_height self.old.rack) flat) (rack_state gray_height self.old.rack) }
-        ensures slate_steps { slate_state self.new.slate ≡ unless (begin_refusal (rack_outline self.old.rack) (slate_outline self.old.slate) flat) (visited (slate_state self.old.slate) flat) (slate_state self.old.slate) }
+        ensures rack_steps { rack_state gray_height self.new.rack ≡
+            begin_leaves (rack_outline self.old.rack) (slate_outline self.old.slate) flat (rack_state gray_height self.old.rack) }
+        ensures slate_steps { slate_state self.new.slate ≡
+            begin_leaves (rack_outline self.old.rack) (slate_outline self.old.slate) flat (slate_state self.old.slate) }
     {
         let slip = begin(flat, &mut self.rack, &mut self.slate)?;
         match self.slip.replace(slip) {
@@ -63,8 +65,10 @@ impl JobBench<'_, '_> {
     // Ends the visit with the slip at hand; without one there is no visit.
     pub(crate) fn end(&mut self) -> Result<(), Fault>
         ensures answers { result ≡ told (end_refusal (rack_outline self.old.rack) (slate_outline self.old.slate) (unwrap_or (rack_outline self.old.rack).visit 0)) }
-        ensures rack_steps { rack_state gray_height self.new.rack ≡ unless (end_refusal (rack_outline self.old.rack) (slate_outline self.old.slate) (unwrap_or (rack_outline self.old.rack).visit 0)) (ended (rack_state gray_height self.old.rack)) (rack_state gray_height self.old.rack) }
-        ensures slate_steps { slate_state self.new.slate ≡ unless (end_refusal (rack_outline self.old.rack) (slate_outline self.old.slate) (unwrap_or (rack_outline self.old.rack).visit 0)) (ended (slate_state self.old.slate)) (slate_state self.old.slate) }
+        ensures rack_steps { rack_state gray_height self.new.rack ≡
+            end_leaves (rack_outline self.old.rack) (slate_outline self.old.slate) (unwrap_or (rack_outline self.old.rack).visit 0) (rack_state gray_height self.old.rack) }
+        ensures slate_steps { slate_state self.new.slate ≡
+            end_leaves (rack_outline self.old.rack) (slate_outline self.old.slate) (unwrap_or (rack_outline self.old.rack).visit 0) (slate_state self.old.slate) }
         ensures spent { self.new.slip ≡ None }
     {
         let Some(slip) = self.slip.take() else {

@@ -2,10 +2,10 @@ use Rattle.std.proofs.Common.{◌-◌, ◌*◌, map, length, sym, ap, ◌∙◌}
 use Rattle.std.proofs.lemmas.List.{length-map}
 use Rattle.bench.specs.Calls.{load_refusal}
 use Rattle.limits.specs.Faults.{told}
-use Rattle.bench.specs.Model.{overwritten, place_start, rack_outline, state_of}
+use Rattle.bench.specs.Model.{overwritten, place_start, rack_outline, sheet_held, state_of}
 use Rattle.bench.proofs.Memory.{map-overwritten}
 use Rattle.bench.proofs.Refusals.{accepted_leaves, load_accepted}
-use Rattle.bench.proofs.Racked.{place_in_memory}
+use Rattle.bench.proofs.Places.{place_in_memory}
 use Rattle.bench.proofs.Stored.{stored_state}
 use Rattle.bench.proofs.rack.Rack.load.Goals as goal
 
@@ -25,7 +25,7 @@ returns-clause-steps g c =
     let heights = ap (λ n. told (load_refusal (rack_outline rack) c.args.place n)) (sym (length-map c.args.picture.now height)) in
     let filled = c.fill.ensures in
     let written = c.store.ensures ∙ ap (λ n. overwritten ((c.args.place - 1) * n) c.args.picture.now rack.sheets.now) c.cells.ensures in
-    ap (state_of c.fill.new.self) (ap (map height) written ∙ map-overwritten height (place_start (marks.w * marks.h) c.args.place) c.args.picture.now rack.sheets.now)
-    ∙ stored_state marks c.args.place tt (map height c.args.picture.now) (map height rack.sheets.now) accepted.1
+    ap (state_of sheet_held c.fill.new.self) (ap (map height) written ∙ map-overwritten height (place_start (marks.w * marks.h) c.args.place) c.args.picture.now rack.sheets.now)
+    ∙ stored_state sheet_held marks c.args.place tt (map height c.args.picture.now) (map height rack.sheets.now) accepted.1
     (length-map _ _ ∙ accepted.0) (length-map _ _ ∙ rack.sheets_sized) c.fill.new.self filled.sizes.w filled.sizes.h filled.sizes.places filled.visit filled.filled
     ∙ accepted_leaves _ _ _ (passed ∙ heights)

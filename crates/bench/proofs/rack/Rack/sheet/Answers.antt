@@ -1,9 +1,9 @@
-use Rattle.std.proofs.Common.{◌≡◌, ◌*◌, cond, [], map, length, sym, ap, ◌∙◌, arith}
+use Rattle.std.proofs.Common.{◌≡◌, ◌*◌, map, length, ap, ◌∙◌, arith}
 use Rattle.std.proofs.lemmas.Nat.{mul-le}
 use Rattle.limits.specs.declared.fault.Fault.TheVariants.{SheetPlace, EmptySheet}
-use Rattle.bench.specs.Model.{cells_of, place_start, rack_outline, sheet_in}
+use Rattle.bench.specs.Model.{cells_of, place_start, rack_outline, sheet_held}
 use Rattle.bench.proofs.Memory.{heights_of_cells}
-use Rattle.bench.proofs.Racked.{length-cells_of, place_in_memory, some_cells}
+use Rattle.bench.proofs.Places.{content_kept, length-cells_of, place_in_memory, some_cells}
 use Rattle.bench.proofs.Refusals.{source_accepted}
 use Rattle.bench.proofs.rack.Rack.sheet.Goals as goal
 
@@ -23,12 +23,9 @@ returns g c =
     let part : c.part.result.now ≡ cells_of cells c.args.place rack.sheets.now = rw c.cells-cells.ensures at c.part.ensures in
     let long : length c.part.result.now ≡ cells = ap length part ∙ length-cells_of marks c.args.place accepted.0 rack.sheets.now rack.sheets_sized in
     let some = some_cells marks c.args.place accepted.0 in
+    let heights = ap (map height) part ∙ heights_of_cells height (place_start cells c.args.place) cells rack.sheets.now in
     record {
-      answers = (
-        c.in_ok-source.ensures.0,
-        ap (map height) part ∙ heights_of_cells height (place_start cells c.args.place) cells rack.sheets.now
-            ∙ sym (ap (λ b. cond b (sheet_in marks (map height rack.sheets.now) c.args.place) []) accepted.1),
-      );
+      answers = (c.in_ok-source.ensures.0, content_kept sheet_held marks (map height rack.sheets.now) c.args.place _ _ c.in_ok-source.ensures.1 heights);
       sides = (
         long,
         some.0,

@@ -3,7 +3,8 @@ use Rattle.std.proofs.lemmas.Result.{err_from_is_err_and}
 use Rattle.levels.specs.Gray.{gray_height}
 use Rattle.limits.specs.Faults.{tells}
 use Rattle.morphology.specs.Sheets.{area}
-use Rattle.bench.specs.Calls.{transform_refusal}
+use Rattle.bench.specs.Calls.{sheet_refusal}
+use Rattle.bench.specs.Model.{sheet_of}
 use Rattle.morphology.specs.declared.operation.Operation.TheVariants.{Erosion, Dilation}
 use Rattle.jobs.proofs.Numbers.{operation_refused, operation_leaves}
 use Rattle.jobs.specs.Commands.{benches, command_refusal, command_tells}
@@ -55,7 +56,7 @@ returns-in_err-area-in-Area-clause-answers c =
     let bench = benches job.bench.rack job.bench.slate in
     told_back.1 ∙ ap Err told_back.2
     ∙ refused_area _ _ _ c.in_err-area-in-Area.ensures
-    ∙ ap (λ k. tells (transform_refusal bench.rack.outline k k) (Some (area (bench.rack.content k)))) c.from-in-Area.ensures
+    ∙ ap (λ k. tells (sheet_refusal bench.rack.outline k) (Some (area (sheet_of bench.rack k)))) c.from-in-Area.ensures
     ∙ ap (λ m. tells (command_refusal (map gray_height job.picture.now) bench m) (command_tells bench m)) (sym c.in-Area.is)
 
 pub returns-in_err-end-in-End-clause-answers : goal.returns-in_err-end-in-End-clause-answers

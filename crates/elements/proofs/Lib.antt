@@ -7,5 +7,5 @@ pub mod Records
 pub mod Readings
 pub mod Outcomes
 pub mod Told
-pub mod Written
-pub mod Writings
+pub mod ReadBack
+pub mod WrittenRecords

@@ -29,21 +29,21 @@ leaves_asked Erosion shape picture b from to = refl
 leaves_asked Dilation shape picture b from to = refl
 
 -- a refused operation tells and leaves what the command that asks for it does
-module _ (op : Operation) (job : Job) (command : Command) (from to at goal : ℕ) (asks : command ≡ asks_for op from to) (source : at ≡ from) (target : goal ≡ to) where
+module _ (op : Operation) (job : Job) (command : Command) (from to source target : ℕ) (asks : command ≡ asks_for op from to) (same_source : source ≡ from) (same_target : target ≡ to) where
   pub operation_refused : (e : Fault) → let b = benches job.bench.rack job.bench.slate in
-      Err e ≡ told (make_refusal b.rack.outline at at goal) → Err e ≡ tells (command_refusal (map gray_height job.picture.now) b command) (command_tells b command)
+      Err e ≡ told (make_refusal b.rack.outline source source target) → Err e ≡ tells (command_refusal (map gray_height job.picture.now) b command) (command_tells b command)
   operation_refused e refused =
       let b = benches job.bench.rack job.bench.slate in
       let picture = map gray_height job.picture.now in
-      refused_tells _ e None (refused ∙ (λ i. told (make_refusal b.rack.outline (source i) (source i) (target i))))
+      refused_tells _ e None (refused ∙ (λ i. told (make_refusal b.rack.outline (same_source i) (same_source i) (same_target i))))
       ∙ sym (refusal_asked op picture b from to)
       ∙ sym (ap (λ m. tells (command_refusal picture b m) (command_tells b m)) asks)
 
-  pub operation_leaves : (after : State (List ℕ)) → after ≡ make_leaves (by_element op (offsets job.element)) (rack_state gray_height job.bench.rack) at at goal →
+  pub operation_leaves : (after : State (List ℕ)) → after ≡ make_leaves (by_element op (offsets job.element)) (rack_state gray_height job.bench.rack) source source target →
       record { rack = after; slate = slate_state job.bench.slate } ≡ command_leaves (offsets job.element) (map gray_height job.picture.now) (benches job.bench.rack job.bench.slate) command
   operation_leaves after is =
       let b = benches job.bench.rack job.bench.slate in
       let picture = map gray_height job.picture.now in
-      (λ i. record { rack = (is ∙ (λ j. make_leaves (by_element op (offsets job.element)) b.rack (source j) (source j) (target j))) i; slate = b.slate })
+      (λ i. record { rack = (is ∙ (λ j. make_leaves (by_element op (offsets job.element)) b.rack (same_source j) (same_source j) (same_target j))) i; slate = b.slate })
       ∙ sym (leaves_asked op (offsets job.element) picture b from to)
       ∙ sym (ap (command_leaves (offsets job.element) picture b) asks)

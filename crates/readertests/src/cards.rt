@@ -1,5 +1,5 @@
 // Cards and what they come to, built-in elements, and cards that are written.
-use elements::{Element, read_card, write_card};
+use elements::{Element, Offset, read_card, write_card};
 use std::process::Abort;
 use std::test::Fail;
 
@@ -15,6 +15,17 @@ const BUILT_IN: [(u32, u64, usize); 4] = [
 fn places(element: &Element) -> u64 {
     (0..64)
         .filter(|index| element.holds(*index))
+        .fold(0, |places, index| places | 1 << index)
+}
+
+// The same, asked offset by offset.
+fn contained(element: &Element) -> u64 {
+    (0..49u8)
+        .filter(|index| {
+            Offset::new((index % 7) as i8 - 3, (index / 7) as i8 - 3).is_some_and(
+                |offset| element.contains(offset),
+            )
+        })
         .fold(0, |places, index| places | 1 << index)
 }
 
@@ -96,6 +107,8 @@ fn elements_are_built_in_and_read_back_as_they_were_written(rt: HostRuntime) -> 
             return Err(Fail::new("a built-in element is refused"));
         };
         assert_eq!(rt; places(&element), expected);
+        assert_eq!(rt; contained(&element), expected);
+        assert_eq!(rt; 1 + 3 * usize::from(element.size()), right);
         check_written(&rt, &element, right);
     }
     for number in [0, 5, u32::MAX] {
@@ -105,6 +118,24 @@ fn elements_are_built_in_and_read_back_as_they_were_written(rt: HostRuntime) -> 
     let Ok(square) = read_card(&whole_square()) else {
         return Err(Fail::new("the card of the whole square is refused"));
     };
+    assert_eq!(rt; square.size(), 49);
     check_written(&rt, &square, 148);
     Ok(())
+}
+
+#[test]
+fn offsets_lie_within_three_of_the_centre(rt: HostRuntime) {
+    let table = [
+        (0, 0, true),
+        (-3, 3, true),
+        (3, -3, true),
+        (-4, 0, false),
+        (4, 0, false),
+        (0, -4, false),
+        (0, 4, false),
+        (i8::MIN, i8::MAX, false),
+    ];
+    for (column, row, within) in table {
+        assert_eq!(rt; Offset::new(column, row).is_some(), within);
+    }
 }

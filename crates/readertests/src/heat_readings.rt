@@ -6,7 +6,7 @@ use readings::{Reading, read_heat, tell_heat};
 type Outcome = Result<(), (u32, usize)>;
 
 // Readings, with what they come to, and the count of the level that then stands where 7 stood.
-const READ: [(Reading, Outcome, Option<i16>); 17] = [
+const READ: [(Reading, Outcome, Option<i16>); 23] = [
     (Reading::Dead, Ok(()), None),
     (Reading::Degrees(20.0625), Ok(()), Some(321)),
     (Reading::Degrees(20.06), Err((18, 0)), Some(7)),
@@ -21,6 +21,12 @@ const READ: [(Reading, Outcome, Option<i16>); 17] = [
     (Reading::Degrees(f32::INFINITY), Err((18, 0)), Some(7)),
     (Reading::Degrees(f32::NEG_INFINITY), Err((18, 0)), Some(7)),
     (Reading::Degrees(3.4e38), Err((18, 0)), Some(7)),
+    (Reading::Degrees(-3.4e38), Err((18, 0)), Some(7)),
+    (Reading::Degrees(1.0e-45), Err((18, 0)), Some(7)),
+    (Reading::Beyond(-2048.0), Ok(()), Some(-32_768)),
+    (Reading::Beyond(-2048.0625), Err((18, 0)), Some(7)),
+    (Reading::Beyond(2047.9375), Ok(()), Some(32_767)),
+    (Reading::Beyond(2048.0), Err((18, 0)), Some(7)),
     (Reading::Beyond(-20.0625), Ok(()), Some(-321)),
     (Reading::Beyond(20.06), Err((18, 0)), Some(7)),
     (Reading::Beyond(f32::NAN), Err((18, 0)), Some(7)),
@@ -33,16 +39,21 @@ fn outcome(readings: &[Reading]) -> (Outcome, [Option<i16>; 2]) {
     (read, [levels[0].count(), levels[1].count()])
 }
 
-// The degrees by which a level is told, or none where it is dead, and the count that they are read as again.
-fn told_and_read(level: Heat) -> (Option<f32>, Option<i16>) {
+// The case of a reading and its degrees.
+fn parts(reading: Reading) -> (&'static str, f32) {
+    match reading {
+        Reading::Dead => ("dead", 0.0),
+        Reading::Degrees(degrees) => ("degrees", degrees),
+        Reading::Beyond(degrees) => ("beyond", degrees),
+    }
+}
+
+// The reading by which a level is told, and the count that it is read as again.
+fn told_and_read(level: Heat) -> ((&'static str, f32), Option<i16>) {
     let mut readings = [Reading::Beyond(7.0), Reading::Dead];
     let _ = tell_heat(&[level, level], &mut readings);
-    let degrees = match readings[0] {
-        Reading::Dead => None,
-        Reading::Degrees(degrees) | Reading::Beyond(degrees) => Some(degrees),
-    };
     let (_, [_, count]) = outcome(&readings);
-    (degrees, count)
+    (parts(readings[0]), count)
 }
 
 #[test]
@@ -53,21 +64,44 @@ fn readings_are_read_and_told(rt: HostRuntime) {
             (expected, [count, None])
         );
     }
-    let told: [(Heat, Option<f32>); 5] = [
-        (Heat::blank(), None),
-        (Heat::of_count(-32_768), Some(-2048.0)),
-        (Heat::of_count(0), Some(0.0)),
-        (Heat::of_count(321), Some(20.0625)),
-        (Heat::of_count(32_767), Some(2047.9375)),
+    let told = [
+        (Heat::blank(), ("dead", 0.0)),
+        (Heat::of_count(-32_768), ("degrees", -2048.0)),
+        (Heat::of_count(0), ("degrees", 0.0)),
+        (Heat::of_count(321), ("degrees", 20.0625)),
+        (Heat::of_count(32_767), ("degrees", 2047.9375)),
     ];
-    for (level, degrees) in told {
-        assert_eq!(rt; told_and_read(level), (degrees, level.count()));
+    for (level, reading) in told {
+        assert_eq!(rt; told_and_read(level), (reading, level.count()));
     }
-    let told = tell_heat(&[Heat::blank()], &mut []);
-    assert_eq!(rt;
+}
+
+// Tells so many blank levels as so many readings, which are beyond 7 degrees before, and gives what they then are.
+fn told(levels: usize, readings: usize) -> (Outcome, [(&'static str, f32); 2]) {
+    let blank = [Heat::blank(); 2];
+    let mut list = [Reading::Beyond(7.0); 2];
+    let told = tell_heat(&blank[..levels.min(2)], &mut list[..readings.min(2)]);
+    (
         told.map_err(|fault| (fault.number(), fault.place())),
-        Err((3, 0))
-    );
+        [parts(list[0]), parts(list[1])],
+    )
+}
+
+#[test]
+fn lists_of_unequal_lengths_are_not_told(rt: HostRuntime) {
+    let (dead, beyond) = (("dead", 0.0), ("beyond", 7.0));
+    let table = [
+        (0, 0, Ok(()), [beyond, beyond]),
+        (0, 1, Err((3, 0)), [beyond, beyond]),
+        (1, 0, Err((3, 0)), [beyond, beyond]),
+        (1, 1, Ok(()), [dead, beyond]),
+        (1, 2, Err((3, 0)), [beyond, beyond]),
+        (2, 1, Err((3, 0)), [beyond, beyond]),
+        (2, 2, Ok(()), [dead, dead]),
+    ];
+    for (levels, readings, outcome, list) in table {
+        assert_eq!(rt; told(levels, readings), (outcome, list));
+    }
 }
 
 #[test]
@@ -85,4 +119,5 @@ fn lists_are_refused_for_their_first_fault(rt: HostRuntime) {
     for (readings, fault) in table {
         assert_eq!(rt; outcome(readings), (Err(fault), [Some(7), None]));
     }
+    assert_eq!(rt; read_heat(&[], &mut []).is_ok(), true);
 }

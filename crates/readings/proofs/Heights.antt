@@ -6,7 +6,7 @@ use Rattle.std.proofs.lemmas.Int.{ints}
 use Rattle.std.specs.List.{AllByRecursion}
 use Rattle.readings.specs.declared.reading.Reading.{Reading}
 use Rattle.readings.specs.declared.reading.Reading.TheVariants.{Dead, Degrees, Beyond}
-use Rattle.readings.specs.Readings.{Count, ReadsDegrees, Reads, told_as}
+use Rattle.readings.specs.Readings.{IsCount, ReadsDegrees, Reads, told_as}
 use Rattle.readings.specs.Lists.{ReadsAll, ReadsBack}
 use Rattle.readings.proofs.Sixteenths.{sixteenths_once, told_exactly}
 
@@ -34,7 +34,7 @@ told_reads : (h : ℕ) → h ≤ 65536 → Reads (told_as h) h
 told_reads zero l = refl
 told_reads (suc n) l =
     let c = pos (suc n) -ℤ pos 32769 in
-    let count : Count c = (omega (arith, ints), omega (arith, ints)) in
+    let count : IsCount c = (omega (arith, ints), omega (arith, ints)) in
     (c, (count, told_exactly c count), sym (-ℤ-+ℤ_cancel (pos (suc n)) (pos 32769)))
 
 -- The readings by which levels are told stand for those levels.

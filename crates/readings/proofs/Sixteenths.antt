@@ -6,7 +6,7 @@ use lib.Ieee.Exact.{HasValue, round_exact}
 use lib.Ieee.Fits.{down_pos}
 use lib.Ieee.Scale.{round_same}
 use lib.Signed.{le_z_yes, mag, nat_abs-le}
-use Rattle.readings.specs.Readings.{signed, Count, Counts, Sixteenths, sixteenth}
+use Rattle.readings.specs.Readings.{signed, IsCount, IsCountOf, IsSixteenths, SixteenthsAreExact, sixteenth}
 use Rattle.readings.proofs.Integers.{negative, nat_abs-signed, signed_mul, signed_multiple, mul_cancel}
 use Rattle.readings.proofs.Rounding.{power_exact}
 use Rattle.readings.proofs.Values.{of_int_value, equal_finite, equal_itself, equal_values, mul_value}
@@ -14,12 +14,12 @@ use Rattle.readings.proofs.Values.{of_int_value, equal_finite, equal_itself, equ
 -- ---- counts
 
 -- A count is a number that sixteen bits hold.
-pub count_small : (c : ℤ) → Count c → mag c < 2 ^ 15
+pub count_small : (c : ℤ) → IsCount c → mag c < 2 ^ 15
 count_small (pos n) h = let k = leb→le n 32767 h.1.le in omega arith
 count_small (negsuc n) h = let k = leb→le n 32767 h.0.le in omega arith
 
 -- What sixteen bits hold is a count.
-pub small_count : (c : ℤ) → mag c < 2 ^ 15 → Count c
+pub small_count : (c : ℤ) → mag c < 2 ^ 15 → IsCount c
 small_count (pos n) h = (le_z_yes tt, le_z_yes (le→leb n 32767 (omega arith)))
 small_count (negsuc n) h = (le_z_yes (le→leb n 32767 (omega arith)), le_z_yes tt)
 
@@ -30,19 +30,19 @@ count_value c h = of_int_value binary32 c (le_trans (nat_abs-le c h) (lit≤ tt)
 -- ---- sixteenths
 
 -- A number is c ÷ 16 for at most one c.
-pub sixteenths_once : (x : Float) (c d : ℤ) → Sixteenths x c → Sixteenths x d → c ≡ d
+pub sixteenths_once : (x : Float) (c d : ℤ) → IsSixteenths x c → IsSixteenths x d → c ≡ d
 sixteenths_once nan c d p q = absurd p
 sixteenths_once (inf s) c d p q = absurd p
 sixteenths_once (fin s m e) c d p q = mul_cancel c d (down e) (down_pos e) (sym p ∙ q)
 
 -- A number of the value n ÷ 16, with a sign, is that many sixteenths.
-value_sixteenths : (x : Float) (s : Bool) (n : ℕ) → HasValue x s n 16 → Sixteenths x (signed s n)
+value_sixteenths : (x : Float) (s : Bool) (n : ℕ) → HasValue x s n 16 → IsSixteenths x (signed s n)
 value_sixteenths nan s n v = v
 value_sixteenths (inf t) s n v = v
 value_sixteenths (fin t m e) s n v = ap (λ u. signed u (m * up e * 16)) v.0 ∙ ap (signed s) v.1 ∙ signed_mul s n (down e)
 
 -- What is c ÷ 16 has that value, with c's sign unless c is 0.
-sixteenths_value : (x : Float) (c : ℤ) → Sixteenths x c → (s : Bool) × HasValue x s (nat_abs c) 16 × (signed s (nat_abs c) ≡ c)
+sixteenths_value : (x : Float) (c : ℤ) → IsSixteenths x c → (s : Bool) × HasValue x s (nat_abs c) 16 × (signed s (nat_abs c) ≡ c)
 sixteenths_value nan c v = absurd v
 sixteenths_value (inf t) c v = absurd v
 sixteenths_value (fin s m e) c v =
@@ -61,7 +61,7 @@ sixteen = fin false 1 (pos 4)
 
 -- Degrees that pass the test are that count of sixteenths.
 pub passed_counts : (x : Float) (c : ℤ) → T (fits binary32 x) → mag c < 2 ^ 15 → eq (of_int binary32 c) (mul binary32 x sixteen) ≡ true
-    → Sixteenths x c
+    → IsSixteenths x c
 unfolding mul
 passed_counts nan c t h same = equal_finite (of_int binary32 c) nan (negative c) (nat_abs c) 1 (count_value c h) same
 passed_counts (inf s) c t h same = equal_finite (of_int binary32 c) (inf _) (negative c) (nat_abs c) 1 (count_value c h) same
@@ -90,7 +90,7 @@ whole_passes true (suc n) h =
     ((negative_back binary32 15 n (lt→ltb n (2 ^ 24) few) h).1, equal_itself (round binary32 true (suc n) 1) true (suc n) 1 (round_whole binary32 true (suc n) few))
 
 -- Degrees that are a count of sixteenths are found, and pass the test.
-pub count_passes : (x : Float) (c : ℤ) → Counts x c
+pub count_passes : (x : Float) (c : ℤ) → IsCountOf x c
     → (to_signed 15 (mul binary32 x sixteen) ≡ c) × (eq (of_int binary32 c) (mul binary32 x sixteen) ≡ true)
 count_passes x c h =
     let p = sixteenths_value x c h.1 in
@@ -110,7 +110,7 @@ round_sixteenth s n h =
     round_exact binary32 s n 16 n 145 (zero-lt-suc 15) h (lt_of_lt_of_le (shl_lt 24 145 h) (lit≤ tt)) (sym (mul_assoc n (2 ^ 145) 16))
 
 -- The degrees told are exact.
-pub told_exactly : (c : ℤ) → Count c → Sixteenths (sixteenth c) c
+pub told_exactly : SixteenthsAreExact
 told_exactly (pos n) h = let small = count_small (pos n) h in value_sixteenths (sixteenth (pos n)) false n (round_sixteenth false n (omega arith))
 told_exactly (negsuc n) h = let small = count_small (negsuc n) h in value_sixteenths (sixteenth (negsuc n)) true (suc n) (round_sixteenth true (suc n) (omega arith))
 

@@ -6,7 +6,7 @@ use Rattle.readings.specs.declared.fault.ReadingFault.{ReadingFault}
 use Rattle.readings.specs.declared.fault.ReadingFault.TheVariants.{Lengths, Unreadable}
 use Rattle.readings.specs.declared.reading.Reading.{Reading}
 use Rattle.readings.specs.declared.reading.Reading.TheVariants.{Dead}
-use Rattle.readings.specs.Readings.{Readable, Reads, told_as}
+use Rattle.readings.specs.Readings.{IsReadable, Reads, told_as}
 
 -- the height of a heat level
 abbrev pub heat_height : Heat → ℕ
@@ -18,12 +18,12 @@ ReadsAll = AllZip Reads
 
 -- readings are accepted for n levels where there are as many, and each reading stands for a level
 abbrev pub Accepted : List Reading → ℕ → Type 0
-Accepted rs n = (length rs ≡ n) × AllByRecursion Readable rs
+Accepted rs n = (length rs ≡ n) × AllByRecursion IsReadable rs
 
 -- they are refused where there are not as many levels, and else at k, the first reading that stands for none
 abbrev pub Refused : List Reading → ℕ → ReadingFault → Type 0
 Refused rs n Lengths = length rs ≡ n → ⊥
-Refused rs n (Unreadable k) = (length rs ≡ n) × (k < n) × AllByRecursion Readable (take k rs) × (Readable (slice_index_or rs k Dead) → ⊥)
+Refused rs n (Unreadable k) = (length rs ≡ n) × (k < n) × AllByRecursion IsReadable (take k rs) × (IsReadable (slice_index_or rs k Dead) → ⊥)
 
 -- levels of any heights, told as readings and read again, are the levels of the same heights, and of no other
 abbrev pub ReadsBack : Type 0

@@ -1,7 +1,7 @@
 // Lists of readings, and lists of the heat levels that they stand for.
 ghost use Rattle.std.specs.Prelude.{◌≡◌, map, length, MatchOption, MatchResult, ◌≢◌};
 ghost use Rattle.readings.specs.Lists.{Accepted, ReadsAll, ReadsBack, Refused, heat_height};
-ghost use Rattle.readings.specs.Readings.{Readable, told_as};
+ghost use Rattle.readings.specs.Readings.{IsReadable, SixteenthsAreExact, told_as};
 ghost use Rattle.std.specs.List.{AllByRecursion};
 
 use crate::fault::ReadingFault;
@@ -11,7 +11,7 @@ use levels::Heat;
 // The index of the first reading that stands for no level, or nothing where each stands for one.
 fn first_unreadable(readings: &[Reading]) -> Option<usize>
     ensures { MatchOption result
-        (AllByRecursion Readable readings.now)
+        (AllByRecursion IsReadable readings.now)
         (λ index. Refused readings.now (length readings.now) (ReadingFault.Unreadable index)) }
 {
     readings
@@ -21,7 +21,7 @@ fn first_unreadable(readings: &[Reading]) -> Option<usize>
 
 // Writes the levels that readings stand for. All readings were checked before, so that the levels stay as they were where one is refused.
 fn write_levels(readings: &[Reading], levels: &mut [Heat])
-    requires { (length readings.now ≡ length levels.old) × (AllByRecursion Readable readings.now) }
+    requires { (length readings.now ≡ length levels.old) × (AllByRecursion IsReadable readings.now) }
     ensures { ReadsAll readings.now (map heat_height levels.new) }
 {
     // By index, since after a zip with iter_mut a proof knows of a list no more than its length.
@@ -68,7 +68,7 @@ fn write_readings(levels: &[Heat], readings: &mut [Reading])
 /// Read again, they give the same levels.
 ///
 /// Refuses with `Lengths` (3) where there are not as many readings as levels; the readings then stay as they were.
-#[tactic(auto, using(crate::proofs::Heights::reads_back))]
+#[tactic(auto, using(crate::proofs::Heights::reads_back, crate::proofs::Sixteenths::told_exactly))]
 pub fn tell_heat(levels: &[Heat], readings: &mut [Reading]) -> Result<(), ReadingFault>
     ensures answers { MatchResult result
         (λ _. length levels.now ≡ length readings.old)
@@ -76,6 +76,7 @@ pub fn tell_heat(levels: &[Heat], readings: &mut [Reading]) -> Result<(), Readin
     ensures memory { MatchResult result
         (λ _. readings.new ≡ map told_as (map heat_height levels.now))
         (λ _. readings.new ≡ readings.old) }
+    ensures exact { SixteenthsAreExact }
     ensures reads_back { ReadsBack }
 {
     if levels.len() != readings.len() {

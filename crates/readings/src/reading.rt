@@ -1,6 +1,6 @@
 // A heat reading, and the heat level that it stands for.
 ghost use Rattle.std.specs.Prelude.{◌≡◌, ℤ, MatchOption};
-ghost use Rattle.readings.specs.Readings.{Counts, Readable, Reads, sixteenth, told_as};
+ghost use Rattle.readings.specs.Readings.{IsCountOf, IsReadable, Reads, sixteenth, told_as};
 
 use levels::Heat;
 use std::num::saturating_f32_to_i16;
@@ -19,7 +19,7 @@ pub enum Reading {
 impl Reading {
     // The level that the reading stands for, or nothing where its degrees are no count of sixteenths.
     pub(crate) fn level(self) -> Option<Heat>
-        ensures { MatchOption result (Readable self → ⊥) (λ heat. Reads self heat.height) }
+        ensures { MatchOption result (IsReadable self → ⊥) (λ heat. Reads self heat.height) }
     {
         match self {
             Reading::Dead => Some(Heat::blank()),
@@ -45,7 +45,7 @@ impl From<Heat> for Reading {
 // The count of sixteenths that the degrees are, or nothing where they are none: scaled by sixteen they then are no
 // whole number, or one out of range.
 fn count_of(degrees: f32) -> Option<i16>
-    ensures { MatchOption result ((c : ℤ) → Counts degrees c → ⊥) (λ c. Counts degrees c) }
+    ensures { MatchOption result ((c : ℤ) → IsCountOf degrees c → ⊥) (λ c. IsCountOf degrees c) }
 {
     let scaled = degrees * 16.0;
     let count = saturating_f32_to_i16(scaled);

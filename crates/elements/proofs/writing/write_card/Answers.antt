@@ -1,8 +1,8 @@
 -- Each need is a step of the writing, or what the card comes to.
 use Rattle.std.proofs.Common.{◌≡◌, ◌≤◌, sym, ◌∙◌, arith, rules}
 use Rattle.std.proofs.lemmas.List.{get_or-set_same, length-set}
-use Rattle.elements.proofs.Writings.{all_written, some_left, writing_goes_on, writing_starts}
-use Rattle.elements.proofs.Written.{written_cards_read_back}
+use Rattle.elements.proofs.WrittenRecords.{all_written, some_left, writing_goes_on, writing_starts}
+use Rattle.elements.proofs.ReadBack.{written_cards_read_back}
 use Rattle.elements.proofs.writing.write_card.Goals as goal
 
 pub returns-then-card-from : goal.returns-then-card-from

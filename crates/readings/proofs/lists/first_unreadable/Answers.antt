@@ -8,21 +8,21 @@ use Rattle.readings.specs.declared.fault.ReadingFault.TheVariants.{Unreadable}
 use Rattle.readings.specs.declared.reading.Reading.{Reading}
 use Rattle.readings.specs.declared.reading.Reading.TheVariants.{Dead}
 use Rattle.readings.specs.Lists.{Refused}
-use Rattle.readings.specs.Readings.{Readable}
+use Rattle.readings.specs.Readings.{IsReadable}
 use Rattle.readings.proofs.lists.first_unreadable.Goals as goal
 
 -- What the first place at which a reading stands for no level says of the readings before it.
 first_refused : (rs : List Reading) (r : Option ℕ)
-    → MatchOption r (AllWithin Readable rs 0 (length rs)) (λ k. (k < length rs) × HoldsAt (λ r. Readable r → ⊥) rs k × AllWithin Readable rs 0 k)
-    → MatchOption r (AllByRecursion Readable rs) (λ k. Refused rs (length rs) (Unreadable k))
-first_refused rs None all = recursion_from_All Readable rs (All-from_all_within Readable rs all)
+    → MatchOption r (AllWithin IsReadable rs 0 (length rs)) (λ k. (k < length rs) × HoldsAt (λ r. IsReadable r → ⊥) rs k × AllWithin IsReadable rs 0 k)
+    → MatchOption r (AllByRecursion IsReadable rs) (λ k. Refused rs (length rs) (Unreadable k))
+first_refused rs None all = recursion_from_All IsReadable rs (All-from_all_within IsReadable rs all)
 first_refused rs (Some k) (before, unreadable, within) =
     let long : length (take k rs) ≡ k = length-take-le k rs (omega arith) in
-    let readable = All-from_get_or Readable (take k rs) Dead (λ i h. rw (get_or-take k rs i Dead (omega arith)) (within i Dead (omega arith) (omega arith))) in
-    (refl, before, recursion_from_All Readable (take k rs) readable, unreadable Dead)
+    let readable = All-from_get_or IsReadable (take k rs) Dead (λ i h. rw (get_or-take k rs i Dead (omega arith)) (within i Dead (omega arith) (omega arith))) in
+    (refl, before, recursion_from_All IsReadable (take k rs) readable, unreadable Dead)
 
 pub returns : goal.returns
 returns c =
     first_refused c.args.readings.now c.position.result
-    (IsFirst-from_position _ _ c.position.result (λ r. Readable r → ⊥) Readable c.position.ensures.ran (YieldsList-from_slice c.args.readings.now cc)
+    (IsFirst-from_position _ _ c.position.result (λ r. IsReadable r → ⊥) IsReadable c.position.ensures.ran (YieldsList-from_slice c.args.readings.now cc)
     (λ x q k. search (rules, tests)) (λ x q k. search (rules, tests)))

@@ -4,7 +4,7 @@ use lib.Ieee.{binary32, eq, fits, mul, of_bits, of_int}
 use lib.Signed.{mag}
 use Rattle.std.proofs.lemmas.Int.{to_z-of_z}
 use Rattle.std.proofs.lemmas.Bool.{both_ways}
-use Rattle.readings.specs.Readings.{Counts}
+use Rattle.readings.specs.Readings.{IsCountOf}
 use Rattle.readings.proofs.Sixteenths.{count_passes, passed_counts, sixteen, small_count}
 use Rattle.readings.proofs.reading.count_of.Goals as goal
 
@@ -21,7 +21,7 @@ returns-then-from-scaled c =
     let same : eq (of_int binary32 count) (mul binary32 degrees sixteen) ≡ true =
     ap (λ x. eq x (mul binary32 degrees sixteen)) (sym (c.from.ensures ∙ ap (of_int binary32) (kept count small))) ∙ c.if-from-scaled.true in
     let fitting : fits binary32 degrees ≡ true = search rules in
-    subst (Counts degrees) (sym (kept count small)) (small_count count small, passed_counts degrees count (subst T (sym fitting) tt) small same)
+    subst (IsCountOf degrees) (sym (kept count small)) (small_count count small, passed_counts degrees count (subst T (sym fitting) tt) small same)
 
 pub returns-else-from-scaled : goal.returns-else-from-scaled
 unfolding of_bits

@@ -1,6 +1,5 @@
 use Rattle.std.proofs.Common.{◌≡◌, ◌*◌, map, length, ap, ◌∙◌, arith}
 use Rattle.std.proofs.lemmas.Nat.{mul-le}
-use Rattle.limits.specs.declared.fault.Fault.TheVariants.{SheetPlace, EmptySheet}
 use Rattle.bench.specs.Model.{cells_of, place_start, rack_outline, sheet_held}
 use Rattle.bench.proofs.Memory.{heights_of_cells}
 use Rattle.bench.proofs.Places.{content_kept, length-cells_of, place_in_memory, some_cells}
@@ -10,7 +9,7 @@ use Rattle.bench.proofs.rack.Rack.sheet.Goals as goal
 pub part-requires : goal.part-requires
 part-requires g c =
     let rack = c.args.self.now in
-    let place = (source_accepted SheetPlace EmptySheet (rack_outline rack) c.args.place c.in_ok-source.ensures.0).0 in
+    let place = (source_accepted _ _ (rack_outline rack) c.args.place c.in_ok-source.ensures.0).0 in
     rw c.cells-cells.ensures (place_in_memory rack.marks c.args.place place rack.sheets.now rack.sheets_sized)
 
 pub returns : goal.returns
@@ -19,7 +18,7 @@ returns g c =
     let rack = c.args.self.now in
     let marks = rack.marks in
     let cells = marks.w * marks.h in
-    let accepted = source_accepted SheetPlace EmptySheet (rack_outline rack) c.args.place c.in_ok-source.ensures.0 in
+    let accepted = source_accepted _ _ (rack_outline rack) c.args.place c.in_ok-source.ensures.0 in
     let part : c.part.result.now ≡ cells_of cells c.args.place rack.sheets.now = rw c.cells-cells.ensures at c.part.ensures in
     let long : length c.part.result.now ≡ cells = ap length part ∙ length-cells_of marks c.args.place accepted.0 rack.sheets.now rack.sheets_sized in
     let some = some_cells marks c.args.place accepted.0 in

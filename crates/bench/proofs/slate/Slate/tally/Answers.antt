@@ -1,5 +1,4 @@
 use Rattle.std.proofs.Common.{◌≡◌, ◌*◌, length, ap, ◌∙◌}
-use Rattle.limits.specs.declared.fault.Fault.TheVariants.{TallyPlace, EmptyTally}
 use Rattle.bench.specs.Model.{cells_of, slate_outline, tally_held}
 use Rattle.bench.proofs.Places.{content_kept, length-cells_of, place_in_memory, some_places}
 use Rattle.bench.proofs.Refusals.{source_accepted}
@@ -8,7 +7,7 @@ use Rattle.bench.proofs.slate.Slate.tally.Goals as goal
 pub part-requires : goal.part-requires
 part-requires c =
     let slate = c.args.self.now in
-    let place = (source_accepted TallyPlace EmptyTally (slate_outline slate) c.args.place c.in_ok-weight.ensures.0).0 in
+    let place = (source_accepted _ _ (slate_outline slate) c.args.place c.in_ok-weight.ensures.0).0 in
     rw c.cells-cells.ensures (place_in_memory slate.marks c.args.place place slate.tallies.now (slate.tallies_sized (some_places slate.marks c.args.place place)))
 
 pub returns : goal.returns
@@ -16,7 +15,7 @@ returns c =
     let slate = c.args.self.now in
     let marks = slate.marks in
     let kept = c.in_ok-weight.ensures in
-    let place = (source_accepted TallyPlace EmptyTally (slate_outline slate) c.args.place kept.0).0 in
+    let place = (source_accepted _ _ (slate_outline slate) c.args.place kept.0).0 in
     let sized = slate.tallies_sized (some_places marks c.args.place place) in
     let part : c.part.result.now ≡ cells_of (marks.w * marks.h) c.args.place slate.tallies.now = rw c.cells-cells.ensures at c.part.ensures in
     record {

@@ -28,7 +28,8 @@ impl<L: Level> Rack<'_, L> {
         ensures answers { result ≡ told (load_refusal (rack_outline self.old) place (length picture.now)) }
         ensures steps { rack_state L.height self.new ≡ load_leaves (rack_state L.height self.old) place (map L.height picture.now) }
         ensures memory { MatchResult result
-            (λ _. self.new.sheets.now ≡ overwritten (place_start (self.old.marks.w * self.old.marks.h) place) picture.now self.old.sheets.now)
+            (λ _. self.new.sheets.now ≡
+            overwritten (place_start (self.old.marks.w * self.old.marks.h) place) picture.now self.old.sheets.now)
             (λ _. self.new.sheets.now ≡ self.old.sheets.now) }
         ensures planes { self.new.planes.now ≡ self.old.planes.now }
     {

@@ -8,4 +8,7 @@ abbrev pub answer_line_lem : ℕ → Result (Option ℕ) JobFault → List ℕ
 answer_line_lem line (Ok None) = codes "=\n"
 answer_line_lem line (Ok (Some n)) = codes "= " ++ (decimal n ++ codes "\n")
 answer_line_lem line (Err f) =
-    codes "! " ++ (decimal line ++ (codes " " ++ (fault_layer f ++ (codes " " ++ (decimal (job_fault_number f) ++ (codes " " ++ (decimal (job_fault_place f) ++ codes "\n")))))))
+    codes "! " ++ (decimal line
+    ++ (codes " " ++ (fault_layer f
+    ++ (codes " " ++ (decimal (job_fault_number f)
+    ++ (codes " " ++ (decimal (job_fault_place f) ++ codes "\n")))))))

@@ -22,8 +22,12 @@ pub(crate) struct Job<'a, 'b, 'c> {
 impl Job<'_, '_, '_> {
     // Does a command, and tells the area where that is asked.
     fn perform(&mut self, command: Command) -> Result<Option<u64>, Fault>
-        ensures answers { result ≡ tells (command_refusal (map gray_height self.old.picture.now) (benches self.old.bench.rack self.old.bench.slate) command) (command_tells (benches self.old.bench.rack self.old.bench.slate) command) }
-        ensures steps { benches self.new.bench.rack self.new.bench.slate ≡ command_leaves (offsets self.old.element) (map gray_height self.old.picture.now) (benches self.old.bench.rack self.old.bench.slate) command }
+        ensures answers { result ≡ tells
+            (command_refusal (map gray_height self.old.picture.now) (benches self.old.bench.rack self.old.bench.slate) command)
+            (command_tells (benches self.old.bench.rack self.old.bench.slate) command) }
+        ensures steps { benches self.new.bench.rack self.new.bench.slate ≡
+            command_leaves (offsets self.old.element) (map gray_height self.old.picture.now)
+            (benches self.old.bench.rack self.old.bench.slate) command }
         ensures element { self.new.element ≡ self.old.element }
         ensures picture { self.new.picture.now ≡ self.old.picture.now }
     {
@@ -50,8 +54,11 @@ impl Job<'_, '_, '_> {
 
     // Does what a line says.
     pub(crate) fn obey(&mut self, line: &[u8]) -> Result<Option<u64>, JobFault>
-        ensures answers { result ≡ line_answer (map gray_height self.old.picture.now) (benches self.old.bench.rack self.old.bench.slate) line.now }
-        ensures steps { benches self.new.bench.rack self.new.bench.slate ≡ line_leaves (offsets self.old.element) (map gray_height self.old.picture.now) (benches self.old.bench.rack self.old.bench.slate) line.now }
+        ensures answers { result ≡
+            line_answer (map gray_height self.old.picture.now) (benches self.old.bench.rack self.old.bench.slate) line.now }
+        ensures steps { benches self.new.bench.rack self.new.bench.slate ≡
+            line_leaves (offsets self.old.element) (map gray_height self.old.picture.now)
+            (benches self.old.bench.rack self.old.bench.slate) line.now }
         ensures element { self.new.element ≡ self.old.element }
         ensures picture { self.new.picture.now ≡ self.old.picture.now }
     {

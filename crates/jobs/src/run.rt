@@ -33,7 +33,9 @@ fn print_answer(
 
 // Obeys the lines of an input one after another.
 fn run_lines(heap: Global, job: &mut Job<'_, '_, '_>, input: &[u8]) -> Result<String, AllocError>
-    ensures { IfOk result (λ out. string_bytes out ≡ run_lines_lem (offsets job.old.element) (map gray_height job.old.picture.now) (benches job.old.bench.rack job.old.bench.slate) 1 (lines_of input.now)) }
+    ensures { IfOk result (λ out. string_bytes out ≡
+        run_lines_lem (offsets job.old.element) (map gray_height job.old.picture.now)
+        (benches job.old.bench.rack job.old.bench.slate) 1 (lines_of input.now)) }
 {
     let mut out = String::new(heap);
     for (index, line) in Lines(input).enumerate() {
@@ -52,7 +54,8 @@ fn run_picture(
     sides: Sides,
     input: &[u8],
 ) -> Result<String, AllocError>
-    ensures { IfOk result (λ out. string_bytes out ≡ run_lines_lem (offsets element) cells.now (opened_bench sides.w sides.h) 1 (lines_of input.now)) }
+    ensures { IfOk result (λ out. string_bytes out ≡
+        run_lines_lem (offsets element) cells.now (opened_bench sides.w sides.h) 1 (lines_of input.now)) }
 {
     let picture = gray_levels(heap, cells)?;
     let mut levels = vec![in heap; Gray::new(0); 6 * sides.cells()]?;

@@ -64,7 +64,8 @@ impl JobBench<'_, '_> {
 
     // Ends the visit with the slip at hand; without one there is no visit.
     pub(crate) fn end(&mut self) -> Result<(), Fault>
-        ensures answers { result ≡ told (end_refusal (rack_outline self.old.rack) (slate_outline self.old.slate) (unwrap_or (rack_outline self.old.rack).visit 0)) }
+        ensures answers { result ≡ told
+            (end_refusal (rack_outline self.old.rack) (slate_outline self.old.slate) (unwrap_or (rack_outline self.old.rack).visit 0)) }
         ensures rack_steps { rack_state gray_height self.new.rack ≡
             end_leaves (rack_outline self.old.rack) (slate_outline self.old.slate) (unwrap_or (rack_outline self.old.rack).visit 0) (rack_state gray_height self.old.rack) }
         ensures slate_steps { slate_state self.new.slate ≡

@@ -22,7 +22,8 @@ fn margins(side: usize, c: usize) -> (usize, usize)
 // Every cell of a row keeps the extreme of itself and of the cell c − 3 columns on in the row `others`.
 fn combine_row<L: Level>(op: Operation, others: &[L], cells: &mut [L], c: usize)
     requires { length others.now ≡ length cells.old }
-    ensures { (m : ℕ) → m < length cells.old → slice_index (map L.height cells.new) m ≡ extreme op (slice_index (map L.height cells.old) m) (in_row (length cells.old) (map L.height others.now) c m) }
+    ensures { (m : ℕ) → m < length cells.old → slice_index (map L.height cells.new) m
+        ≡ extreme op (slice_index (map L.height cells.old) m) (in_row (length cells.old) (map L.height others.now) c m) }
 {
     let w = cells.len();
     let (left, right) = margins(w, c);
@@ -44,7 +45,9 @@ pub(crate) fn pass<L: Level>(
 )
     requires source { length from.now ≡ sides.w * sides.h }
     requires target { length to.old ≡ sides.w * sides.h }
-    ensures { (p : ℕ) → p < sides.w * sides.h → slice_index (map L.height to.new) p ≡ extreme op (slice_index (map L.height to.old) p) (at_place sides.w (neighbour sides.w sides.h (map L.height from.now) c r) p) }
+    ensures { (p : ℕ) → p < sides.w * sides.h → slice_index (map L.height to.new) p
+        ≡ extreme op (slice_index (map L.height to.old) p)
+        (at_place sides.w (neighbour sides.w sides.h (map L.height from.now) c r) p) }
 {
     let w = sides.w;
     let (above, below) = margins(sides.h, r);

@@ -19,7 +19,8 @@ pub(crate) fn sweep<L: Level>(
 )
     requires source { length from.now ≡ sides.w * sides.h }
     requires target { to.old ≡ from.now }
-    ensures { (p : ℕ) → p < sides.w * sides.h → slice_index (map L.height to.new) p ≡ swept op sides.w sides.h (map L.height from.now) (offsets element.now) p }
+    ensures { (p : ℕ) → p < sides.w * sides.h → slice_index (map L.height to.new) p
+        ≡ swept op sides.w sides.h (map L.height from.now) (offsets element.now) p }
 {
     // By number: an element tells its offsets by `holds` alone, and the number gives column and row.
     for index in 0..49 {

@@ -42,6 +42,7 @@ ReadsBackPictures =
 abbrev pub ReadsOnlyPictures : Type 0
 ReadsOnlyPictures = (bytes : List ℕ) (picture : Picture) → read bytes ≡ Ok picture → IsFile bytes picture
 
--- any other file is refused for what is wrong with it: a header at its first misfit, a side at its first digit, a length at the first cell that is missing or too many
+-- any other file is refused for what is wrong with it: a header at its first misfit, a side at its first digit, a length at
+-- the first cell that is missing or too many
 abbrev pub RefusesWhatIsWrong : Type 0
 RefusesWhatIsWrong = (bytes : List ℕ) (fault : PictureFault) → read bytes ≡ Err fault → Wrong bytes fault

@@ -92,7 +92,9 @@ pub fn read_picture(bytes: &[u8]) -> Result<Picture, PictureFault>
 
 // The sides in the header that the file starts with.
 fn read_header(bytes: &[u8]) -> Result<Header, Misfit>
-    ensures answers { MatchResult result (λ s. ScansAs bytes.now (Ok (record { numbers = s.width ∷ s.height ∷ []; end = s.start }))) (λ misfit. ScansAs bytes.now (Err misfit)) }
+    ensures answers { MatchResult result
+        (λ s. ScansAs bytes.now (Ok (record { numbers = s.width ∷ s.height ∷ []; end = s.start })))
+        (λ misfit. ScansAs bytes.now (Err misfit)) }
     ensures within { IfOk result (λ s. (s.height_at ≡ height_at_lem s.width) × (s.start ≤ length bytes.now)) }
 {
     let mut scanner = Scanner::new(bytes);

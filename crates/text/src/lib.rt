@@ -34,8 +34,10 @@ impl<'t> Scanner<'t> {
     /// Refuses a text in which they do not stand next, at the first byte that is another, or at its end.
     pub fn fixed(&mut self, wanted: &[u8]) -> Result<(), Misfit>
         ensures answers { reached self.new.at result ≡ fixed_at wanted.now self.old.bytes.now self.old.at }
-        ensures tells { self.old.at ≤ length self.old.bytes.now → TellsFixed wanted.now self.old.bytes.now self.old.at (reached self.new.at result) }
-        ensures within { self.old.at ≤ length self.old.bytes.now → (self.new.at ≤ length self.old.bytes.now) × IfErr result (λ misfit. misfit.place ≤ length self.old.bytes.now) }
+        ensures tells { self.old.at ≤ length self.old.bytes.now →
+            TellsFixed wanted.now self.old.bytes.now self.old.at (reached self.new.at result) }
+        ensures within { self.old.at ≤ length self.old.bytes.now →
+            (self.new.at ≤ length self.old.bytes.now) × IfErr result (λ misfit. misfit.place ≤ length self.old.bytes.now) }
         ensures same_text { self.new.bytes.now ≡ self.old.bytes.now }
         ensures err { OnErr result (self.new.at ≡ self.old.at) }
     {
@@ -54,7 +56,8 @@ impl<'t> Scanner<'t> {
     pub fn number(&mut self, least: u16) -> Result<u16, Misfit>
         ensures answers { with_end self.new.at result ≡ number_at least self.old.bytes.now self.old.at }
         ensures tells { TellsNumber least self.old.bytes.now self.old.at (with_end self.new.at result) }
-        ensures within { self.old.at ≤ length self.old.bytes.now → (self.new.at ≤ length self.old.bytes.now) × IfErr result (λ misfit. misfit.place ≤ length self.old.bytes.now) }
+        ensures within { self.old.at ≤ length self.old.bytes.now →
+            (self.new.at ≤ length self.old.bytes.now) × IfErr result (λ misfit. misfit.place ≤ length self.old.bytes.now) }
         ensures same_text { self.new.bytes.now ≡ self.old.bytes.now }
         ensures err { OnErr result (self.new.at ≡ self.old.at) }
     {

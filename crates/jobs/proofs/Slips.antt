@@ -9,7 +9,7 @@ use Rattle.bench.specs.declared.rack.Rack.{Rack}
 use Rattle.bench.specs.Model.{Outline, State, rack_outline, rack_state, slate_outline, slate_state, slip_flat}
 use Rattle.bench.specs.declared.slate.Slate.{Slate}
 use Rattle.bench.specs.declared.slip.Slip.{Slip}
-use Rattle.bench.specs.Calls.{end_refusal, ended, stored}
+use Rattle.bench.specs.Calls.{end_leaves, end_refusal, ended, stored}
 use Rattle.jobs.specs.declared.visits.JobBench.{JobBench}
 
 -- a call that fills a place, or is refused, keeps the sides and the visit
@@ -22,14 +22,19 @@ stored_keeps : (o : Option Fault) (s after : State (List ℕ)) (k : ℕ) (cells 
 stored_keeps None s after k cells is = record { visit = ap (λ t. t.outline.visit) is; w = ap (λ t. t.outline.w) is; h = ap (λ t. t.outline.h) is }
 stored_keeps (Some f) s after k cells is = record { visit = ap (λ t. t.outline.visit) is; w = ap (λ t. t.outline.w) is; h = ap (λ t. t.outline.h) is }
 
+-- what a bench with this rack, slate and slip has to show
+abbrev Facts : Rack Gray → Slate → Option Slip → Type 0
+Facts rack slate slip = record {
+  on_rack : (rack_outline rack).visit ≡ slip_flat slip;
+  on_slate : (slate_outline slate).visit ≡ slip_flat slip;
+  same_width : (rack_outline rack).w ≡ (slate_outline slate).w;
+  same_height : (rack_outline rack).h ≡ (slate_outline slate).h;
+}
+
 -- so a bench's facts hold of the rack after it
-pub still_held : (bench : JobBench) (rack : Rack Gray) (o : Option Fault) (k : ℕ) (cells : List ℕ) → rack_state gray_height rack ≡ unless o (stored (rack_state gray_height bench.rack) k cells) (rack_state gray_height bench.rack) →
-    record {
-      on_rack : (rack_outline rack).visit ≡ slip_flat bench.slip;
-      on_slate : (slate_outline bench.slate).visit ≡ slip_flat bench.slip;
-      same_width : (rack_outline rack).w ≡ (slate_outline bench.slate).w;
-      same_height : (rack_outline rack).h ≡ (slate_outline bench.slate).h;
-    }
+pub still_held : (bench : JobBench) (rack : Rack Gray) (o : Option Fault) (k : ℕ) (cells : List ℕ)
+    → rack_state gray_height rack ≡ unless o (stored (rack_state gray_height bench.rack) k cells) (rack_state gray_height bench.rack)
+    → Facts rack bench.slate bench.slip
 still_held bench rack o k cells is =
     let keeps = stored_keeps o _ _ k cells is in
     record { on_rack = keeps.visit ∙ bench.on_rack; on_slate = bench.on_slate; same_width = keeps.w ∙ bench.same_width; same_height = keeps.h ∙ bench.same_height }
@@ -44,16 +49,12 @@ end_accepted slip bench held =
     rw (on_rack, on_slate, eq-eqb slip.flat slip.flat refl, eq-eqb r.w s.w bench.same_width, eq-eqb r.h s.h bench.same_height) refl
 
 -- after it no visit is open on either, and no slip is left
-pub end_holds : (slip : Slip) (bench : JobBench) (rack : Rack Gray) (slate : Slate) (left : Option Slip) → bench.slip ≡ Some slip → left ≡ None →
-    let refused = end_refusal (rack_outline bench.rack) (slate_outline bench.slate) slip.flat in
-    rack_state gray_height rack ≡ unless refused (ended (rack_state gray_height bench.rack)) (rack_state gray_height bench.rack) →
-    slate_state slate ≡ unless refused (ended (slate_state bench.slate)) (slate_state bench.slate) →
-    record {
-      on_rack : (rack_outline rack).visit ≡ slip_flat left;
-      on_slate : (slate_outline slate).visit ≡ slip_flat left;
-      same_width : (rack_outline rack).w ≡ (slate_outline slate).w;
-      same_height : (rack_outline rack).h ≡ (slate_outline slate).h;
-    }
+pub end_holds : (slip : Slip) (bench : JobBench) (rack : Rack Gray) (slate : Slate) (left : Option Slip) → bench.slip ≡ Some slip → left ≡ None
+    → let r = rack_outline bench.rack in
+    let s = slate_outline bench.slate in
+    rack_state gray_height rack ≡ end_leaves r s slip.flat (rack_state gray_height bench.rack)
+    → slate_state slate ≡ end_leaves r s slip.flat (slate_state bench.slate)
+    → Facts rack slate left
 end_holds slip bench rack slate left held none racks slates =
     let accepted = end_accepted slip bench held in
     let r : rack_state gray_height rack ≡ ended (rack_state gray_height bench.rack) = racks ∙ ap (λ o. unless o (ended (rack_state gray_height bench.rack)) (rack_state gray_height bench.rack)) accepted in

@@ -21,6 +21,7 @@ pub(crate) struct Job<'a, 'b, 'c> {
 
 impl Job<'_, '_, '_> {
     // Does a command, and tells the area where that is asked.
+    #[tactic(auto, using(crate::proofs::Numbers::operation_refused, crate::proofs::Slips::still_held, crate::proofs::Refusals::refused_tells, crate::proofs::Refusals::refused_area))]
     fn perform(&mut self, command: Command) -> Result<Option<u64>, Fault>
         ensures answers { result ≡ tells
             (command_refusal (map gray_height self.old.picture.now) (benches self.old.bench.rack self.old.bench.slate) command)

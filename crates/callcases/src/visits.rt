@@ -20,6 +20,7 @@ pub(crate) struct Bench<'a, L: Level> {
 
 impl<'a, L: Level> Bench<'a, L> {
     // Opens a rack and a slate of these sizes, whatever they are.
+    #[tactic(auto, using(crate::proofs::Slips::opened_holds))]
     pub(crate) fn open(
         levels: &'a mut [L],
         sheets: Sizes,

@@ -3,3 +3,4 @@ pub mod Memory
 pub mod Opened
 pub mod Stored
 pub mod Places
+pub mod Unused

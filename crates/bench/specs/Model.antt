@@ -81,17 +81,19 @@ rack_outline r = outline_of r.marks
 abbrev pub slate_outline : Slate → Outline
 slate_outline s = outline_of s.marks
 
--- the state of a rack whose levels have these heights: nothing is kept of a sheet beside its cells
+-- what a place of a rack holds: nothing is kept of a sheet beside its cells
 abbrev pub sheet_held : Unit {0} → List ℕ → List ℕ
 sheet_held nothing cells = cells
 
+-- the state of a rack whose levels have these heights
 abbrev pub rack_state : {L : Type 0} → (L → ℕ) → Rack L → State (List ℕ)
 rack_state height r = state_of sheet_held r.marks (map height r.sheets.now)
 
--- the state of a slate: the weight of a tally is kept beside its cells
+-- what a place of a slate holds: of a tally its weight is kept beside its cells
 abbrev pub tally_held : ℕ → List ℤ → Tally
 tally_held weight cells = record { cells = cells; weight = weight }
 
+-- the state of a slate
 abbrev pub slate_state : Slate → State Tally
 slate_state s = state_of tally_held s.marks s.tallies.now
 

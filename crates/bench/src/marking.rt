@@ -78,7 +78,7 @@ impl<T: Copy> Marks<T> {
 
     // Fills a place.
     pub(crate) fn fill(&mut self, place: usize, content: T)
-        requires place { (1 ≤ place) × (place ≤ 12) }
+        requires place { (1 ≤ place) × (place ≤ self.old.places) }
         requires visit { is_some self.old.visit ≡ true }
         ensures sizes { SameSizes self.old self.new }
         ensures visit { self.new.visit ≡ self.old.visit }
@@ -97,6 +97,7 @@ impl<T: Copy> Marks<T> {
     }
 
     // Closes the visit and empties every place.
+    #[tactic(auto, using(crate::proofs::Unused::none_past))]
     pub(crate) fn clear(&mut self)
         ensures sizes { SameSizes self.old self.new }
         ensures visit { self.new.visit ≡ None }

@@ -1,9 +1,9 @@
 // The marks of a rack or a slate: its sides and places, what each place is filled with, and the open visit.
-ghost use Rattle.std.specs.Prelude.{◌≡◌, ◌≤◌, min, true, ◌||◌, length, is_some};
+ghost use Rattle.std.specs.Prelude.{◌≡◌, ◌≤◌, min, true, ◌||◌, length, drop, is_some};
 ghost use Rattle.bench.specs.Flags.{none};
 
 /// Sides, number of places, the flat of the open visit or none, and for each filled place what is kept of it beside its
-/// cells: nothing of a sheet, its weight of a tally. With no visit open every place is empty.
+/// cells: nothing of a sheet, its weight of a tally. With no visit open every place is empty. Past the last place nothing is kept.
 // Wrong sizes are sides 0 and no places, and no `Option`: a rack must open with any sizes, and each call would take it apart.
 // Twelve entries with the number of places beside them: fixed memory by a rule of the project.
 #[derive(Drop)]
@@ -20,4 +20,5 @@ pub struct Marks<T> {
     ghost high: { h ≤ 1024 },
     ghost few: { places ≤ 12 },
     ghost forgotten: { (is_some visit || none filled) ≡ true },
+    ghost unused: { none (drop places filled) ≡ true },
 }

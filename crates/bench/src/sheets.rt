@@ -40,17 +40,26 @@ impl<L: Level> Rack<'_, L> {
         Ok(())
     }
 
-    // The names of the two calls are the users', so each stands over the one call.
+    // Fills a place with what an operation by an element makes of the sheet in another, or the same.
+    fn operate(
+        &mut self,
+        op: Operation,
+        element: &Element,
+        from: usize,
+        to: usize,
+    ) -> Result<(), Fault>
+        ensures { MakesSheet L.height (by_element op (offsets element.now)) self.old self.new from from to result }
+    {
+        self.make(&ByElement { op, element }, from, from, to)
+    }
+
+    // The names of the two calls are the users', so each stands over `operate`.
     /// Fills the place `to` with the erosion by an element of the sheet in the place `from`, which may be the same.
     /// Refuses a place that the rack has not (5), no visit open (31), and a source place that is empty (34).
     pub fn erode(&mut self, element: &Element, from: usize, to: usize) -> Result<(), Fault>
         ensures { MakesSheet L.height (by_element Erosion (offsets element.now)) self.old self.new from from to result }
     {
-        let transform = ByElement {
-            op: Operation::Erosion,
-            element,
-        };
-        self.make(&transform, from, from, to)
+        self.operate(Operation::Erosion, element, from, to)
     }
 
     /// Fills the place `to` with the dilation by an element of the sheet in the place `from`, which may be the same.
@@ -58,11 +67,7 @@ impl<L: Level> Rack<'_, L> {
     pub fn dilate(&mut self, element: &Element, from: usize, to: usize) -> Result<(), Fault>
         ensures { MakesSheet L.height (by_element Dilation (offsets element.now)) self.old self.new from from to result }
     {
-        let transform = ByElement {
-            op: Operation::Dilation,
-            element,
-        };
-        self.make(&transform, from, from, to)
+        self.operate(Operation::Dilation, element, from, to)
     }
 
     /// Tells the area of the sheet in a place: the sum of its heights.

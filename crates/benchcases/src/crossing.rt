@@ -1,5 +1,5 @@
 // Slips that are tried on a rack or a slate of another visit.
-ghost use Rattle.std.specs.Prelude.{◌≡◌, ◌≤◌, ◌≢◌, Some, None};
+ghost use Rattle.std.specs.Prelude.{◌≡◌, ◌≤◌, ◌≢◌, ◌||◌, true, is_some, Some, None};
 ghost use Rattle.bench.specs.Model.{rack_outline, slate_outline};
 ghost use Rattle.cases.specs.Visits.{shared};
 
@@ -36,9 +36,9 @@ fn end_own<L: Level>(slip: Slip, rack: &mut Rack<'_, L>, slate: &mut Slate<'_>)
     }
 }
 
-// Tries to begin a visit with a slate that has one; nothing changes.
+// Tries to begin a visit with a rack or a slate that has one; nothing changes.
 fn begin_refused<L: Level>(flat: u16, rack: &mut Rack<'_, L>, slate: &mut Slate<'_>) -> Fault
-    requires { (slate_outline slate.old).visit ≢ None }
+    requires { (is_some (rack_outline rack.old).visit || is_some (slate_outline slate.old).visit) ≡ true }
     ensures rack { rack_outline rack.new ≡ rack_outline rack.old }
     ensures slate { slate_outline slate.new ≡ slate_outline slate.old }
 {
@@ -61,28 +61,39 @@ fn end_refused<L: Level>(slip: Slip, rack: &mut Rack<'_, L>, slate: &mut Slate<'
     }
 }
 
-// Two visits of different flats: each slip is tried where it does not belong, and then spent where it does.
+// Two visits of different flats on benches of the same sides: each slip is tried where it does not belong, and then spent where
+// it does.
 fn cross_flats<L: Level>(
     rack: &mut Rack<'_, L>,
     slate: &mut Slate<'_>,
     other_rack: &mut Rack<'_, L>,
     other_slate: &mut Slate<'_>,
-) -> [Fault; 5]
+) -> [Fault; 7]
     requires rack { shared (rack_outline rack.old) ≡ (None, 5, 1) }
     requires slate { shared (slate_outline slate.old) ≡ (None, 5, 1) }
-    requires next_rack { shared (rack_outline other_rack.old) ≡ (None, 1, 5) }
-    requires next_slate { shared (slate_outline other_slate.old) ≡ (None, 1, 5) }
+    requires next_rack { shared (rack_outline other_rack.old) ≡ (None, 5, 1) }
+    requires next_slate { shared (slate_outline other_slate.old) ≡ (None, 5, 1) }
 {
     let slip = begin_free(7, rack, slate);
     let other = begin_free(8, other_rack, other_slate);
     let (other, other_flat) = end_refused(other, rack, slate);
+    let (other, flat_first) = end_refused(other, rack, other_slate);
     let (slip, other_visit) = end_refused(slip, rack, other_slate);
     end_own(other, other_rack, other_slate);
     let (slip, no_visit) = end_refused(slip, other_rack, other_slate);
     let (slip, slate_without) = end_refused(slip, rack, other_slate);
     let slate_with = begin_refused(9, other_rack, slate);
+    let rack_with = begin_refused(9, rack, other_slate);
     end_own(slip, rack, slate);
-    [other_flat, other_visit, no_visit, slate_without, slate_with]
+    [
+        other_flat,
+        flat_first,
+        other_visit,
+        no_visit,
+        slate_without,
+        slate_with,
+        rack_with,
+    ]
 }
 
 // Two visits of the same flat: with the slate of other sides end is refused.
@@ -123,13 +134,17 @@ pub(crate) fn cross_visits<L: Level>(rt: &HostRuntime) -> io::Result<()> {
     let heap = rt.alloc();
     let mut levels = vec![in heap; L::lowest(); 30]?;
     let mut numbers = vec![in heap; 0; 5]?;
+    let mut high_levels = vec![in heap; L::lowest(); 30]?;
+    let mut high_numbers = vec![in heap; 0; 5]?;
     let mut other_levels = vec![in heap; L::lowest(); 30]?;
     let mut other_numbers = vec![in heap; 0; 5]?;
     let mut rack = Rack::open(levels.as_mut_slice(), 5, 1, 4);
     let mut slate = Slate::open(numbers.as_mut_slice(), 5, 1, 1);
-    let mut other_rack = Rack::open(other_levels.as_mut_slice(), 1, 5, 4);
-    let mut other_slate = Slate::open(other_numbers.as_mut_slice(), 1, 5, 1);
-    let sides = cross_sides(&mut rack, &mut slate, &mut other_rack, &mut other_slate);
+    let mut high_rack = Rack::open(high_levels.as_mut_slice(), 1, 5, 4);
+    let mut high_slate = Slate::open(high_numbers.as_mut_slice(), 1, 5, 1);
+    let mut other_rack = Rack::open(other_levels.as_mut_slice(), 5, 1, 4);
+    let mut other_slate = Slate::open(other_numbers.as_mut_slice(), 5, 1, 1);
+    let sides = cross_sides(&mut rack, &mut slate, &mut high_rack, &mut high_slate);
     show_all(rt, &sides)?;
     let flats = cross_flats(&mut rack, &mut slate, &mut other_rack, &mut other_slate);
     show_all(rt, &flats)

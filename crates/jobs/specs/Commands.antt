@@ -60,8 +60,10 @@ command_leaves offsets picture b (Begin flat) =
       slate = begin_leaves b.rack.outline b.slate.outline flat b.slate;
     }
 command_leaves offsets picture b (Load place) = record { rack = load_leaves b.rack place picture; slate = b.slate }
-command_leaves offsets picture b (Erode from to) = record { rack = make_leaves (by_element Erosion offsets) b.rack from from to; slate = b.slate }
-command_leaves offsets picture b (Dilate from to) = record { rack = make_leaves (by_element Dilation offsets) b.rack from from to; slate = b.slate }
+command_leaves offsets picture b (Erode from to) =
+    record { rack = make_leaves (by_element Erosion offsets) b.rack from from to; slate = b.slate }
+command_leaves offsets picture b (Dilate from to) =
+    record { rack = make_leaves (by_element Dilation offsets) b.rack from from to; slate = b.slate }
 command_leaves offsets picture b (Area place) = b
 command_leaves offsets picture b End =
     let flat = unwrap_or b.rack.outline.visit 0 in

@@ -67,9 +67,11 @@ impl JobBench<'_, '_> {
         ensures answers { result ≡ told
             (end_refusal (rack_outline self.old.rack) (slate_outline self.old.slate) (unwrap_or (rack_outline self.old.rack).visit 0)) }
         ensures rack_steps { rack_state gray_height self.new.rack ≡
-            end_leaves (rack_outline self.old.rack) (slate_outline self.old.slate) (unwrap_or (rack_outline self.old.rack).visit 0) (rack_state gray_height self.old.rack) }
+            end_leaves (rack_outline self.old.rack) (slate_outline self.old.slate)
+            (unwrap_or (rack_outline self.old.rack).visit 0) (rack_state gray_height self.old.rack) }
         ensures slate_steps { slate_state self.new.slate ≡
-            end_leaves (rack_outline self.old.rack) (slate_outline self.old.slate) (unwrap_or (rack_outline self.old.rack).visit 0) (slate_state self.old.slate) }
+            end_leaves (rack_outline self.old.rack) (slate_outline self.old.slate)
+            (unwrap_or (rack_outline self.old.rack).visit 0) (slate_state self.old.slate) }
         ensures spent { self.new.slip ≡ None }
     {
         let Some(slip) = self.slip.take() else {

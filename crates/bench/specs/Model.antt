@@ -97,6 +97,10 @@ tally_held weight cells = record { cells = cells; weight = weight }
 abbrev pub slate_state : Slate → State Tally
 slate_state s = state_of tally_held s.marks s.tallies.now
 
+-- what a rack and its slate have in common during a visit: the visit, and the sides
+abbrev pub shared : Outline → Option ℕ × ℕ × ℕ
+shared o = (o.visit, o.w, o.h)
+
 -- the flat on a slip, if there is one
 abbrev pub slip_flat : Option Slip → Option ℕ
 slip_flat None = None

@@ -1,7 +1,6 @@
 // Slips that are tried on a rack or a slate of another visit.
 ghost use Rattle.std.specs.Prelude.{◌≡◌, ◌≤◌, ◌≢◌, ◌||◌, true, is_some, Some, None};
-ghost use Rattle.bench.specs.Model.{rack_outline, slate_outline};
-ghost use Rattle.cases.specs.Visits.{shared};
+ghost use Rattle.bench.specs.Model.{rack_outline, shared, slate_outline};
 
 use bench::{EndRefused, Rack, Slate, Slip, begin, end};
 use cases::Answer;

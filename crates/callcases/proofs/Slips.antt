@@ -1,16 +1,14 @@
 -- The slip at hand is that of the visit: what an opening, an end and the calls on sheets keep. Assumes nothing.
-use Rattle.std.proofs.Common.{◌≡◌, ℕ, List, Some, None, Option, Result, refl, ap, subst, sym, ◌∙◌, arith}
-use Rattle.std.proofs.lemmas.Bool.{eq-eqb}
+use Rattle.std.proofs.Common.{◌≡◌, ℕ, Some, None, Option, refl, ap, subst, sym, ◌∙◌, arith}
 use Rattle.std.proofs.lemmas.Grind.{merely, not_there}
 use mathlib.Core.Logic.{∥∥₁_map}
 use Rattle.limits.specs.declared.fault.Fault.{Fault}
-use Rattle.bench.specs.declared.rack.Rack.{Rack}
 use Rattle.bench.specs.declared.slip.Slip.{Slip}
-use Rattle.bench.specs.Model.{Outline, State, rack_outline, rack_state}
-use Rattle.bench.specs.Calls.{Making, MakesSheet, end_refusal, ended, opened, as_opened, stored}
+use Rattle.bench.specs.Model.{Outline, State, shared}
+use Rattle.bench.specs.Calls.{end_leaves, end_refusal, ended, opened, as_opened}
 use Rattle.limits.specs.Faults.{unless}
 use Rattle.limits.specs.Sizes.{sizes_refusal}
-use Rattle.cases.specs.Visits.{shared}
+use Rattle.bench.proofs.Visits.{end_accepted}
 use Rattle.callcases.specs.Visits.{Holds}
 
 -- whatever its sizes, a bench opens with no visit
@@ -30,16 +28,7 @@ pub opened_holds : {X Y : Type 0} (r : State X) (s : State Y) (w h places len w'
 opened_holds r s w h places len w' h' places' len' rack slate =
     merely (free_holds r.outline s.outline (opened_free 2 w h places len r rack) (opened_free 0 w' h' places' len' s slate))
 
--- a call that fills a place keeps the visit and the sides
-pub stored_shared : (o : Option Fault) (s after : State (List ℕ)) (k : ℕ) (cells : List ℕ) → after ≡ unless o (stored s k cells) s → shared after.outline ≡ shared s.outline
-stored_shared None s after k cells is = ap (λ t. shared t.outline) is
-stored_shared (Some f) s after k cells is = ap (λ t. shared t.outline) is
-
-pub made_shared : {L : Type 0} (height : L → ℕ) (made : Making) (was is : Rack L) (one other to : ℕ) (answer : Result (Unit {0}) Fault)
-    → MakesSheet height made was is one other to answer → shared (rack_outline is) ≡ shared (rack_outline was)
-made_shared height made was is one other to answer h = stored_shared _ (rack_state height was) (rack_state height is) to _ h.steps
-
--- what keeps them keeps the slip that of the visit
+-- what keeps the visit and the sides keeps the slip that of the visit
 pub shared_holds : (slip : Option Slip) (r after s : Outline) → shared after ≡ shared r → ∥ Holds slip r s ∥₁ → ∥ Holds slip after s ∥₁
 shared_holds slip r after s same held =
     ∥∥₁_map held (λ holds.
@@ -50,17 +39,16 @@ shared_holds slip r after s same held =
     })
 
 -- end is not refused with the slip of the visit
-end_accepted : (held : Option Slip) (slip : Slip) (r s : Outline) → held ≡ Some slip → Holds held r s → end_refusal r s slip.flat ≡ None
-end_accepted held slip r s some holds =
+own_accepted : (held : Option Slip) (slip : Slip) (r s : Outline) → held ≡ Some slip → Holds held r s → end_refusal r s slip.flat ≡ None
+own_accepted held slip r s some holds =
     let own = subst (λ held. Holds held r s) some holds in
-    let same = own.same refl in
-    rw (own.on_rack, own.on_slate, eq-eqb slip.flat slip.flat refl, eq-eqb r.w s.w (ap (λ x. x.1) same), eq-eqb r.h s.h (ap (λ x. x.2) same)) refl
+    end_accepted slip.flat r s own.on_rack (own.same refl)
 
 pub end_not_refused : (held : Option Slip) (slip : Slip) (r s : Outline) (fault : Fault)
     → held ≡ Some slip → ∥ Holds held r s ∥₁ → end_refusal r s slip.flat ≡ Some fault → ⊥
 end_not_refused held slip r s fault some holds refused =
     not_there holds (λ own.
-    let accepted = end_accepted held slip r s some own in
+    let accepted = own_accepted held slip r s some own in
     let z : ◌≡◌ {A = ℕ} 0 1 = cc in omega arith)
 
 -- so it leaves no visit
@@ -70,12 +58,12 @@ ended_free o was after none is =
 
 pub end_holds : {X Y : Type 0} (held left : Option Slip) (slip : Slip) (r rack : State X) (s slate : State Y)
     → held ≡ Some slip → left ≡ None
-    → rack ≡ unless (end_refusal r.outline s.outline slip.flat) (ended r) r
-    → slate ≡ unless (end_refusal r.outline s.outline slip.flat) (ended s) s
+    → rack ≡ end_leaves r.outline s.outline slip.flat r
+    → slate ≡ end_leaves r.outline s.outline slip.flat s
     → ∥ Holds held r.outline s.outline ∥₁ → ∥ Holds left rack.outline slate.outline ∥₁
 end_holds held left slip r rack s slate some none rack_is slate_is holds =
     ∥∥₁_map holds (λ own.
-    let accepted = end_accepted held slip r.outline s.outline some own in
+    let accepted = own_accepted held slip r.outline s.outline some own in
     let refusal = end_refusal r.outline s.outline slip.flat in
     subst (λ left. Holds left rack.outline slate.outline) (sym none)
     (free_holds rack.outline slate.outline (ended_free refusal r rack accepted rack_is) (ended_free refusal s slate accepted slate_is)))

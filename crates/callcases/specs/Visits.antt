@@ -1,8 +1,7 @@
 -- The slip at hand is that of the visit on a rack and its slate. Assumes nothing.
 use Rattle.std.specs.Prelude.{◌≡◌, true, is_some, Option}
 use Rattle.bench.specs.declared.slip.Slip.{Slip}
-use Rattle.bench.specs.Model.{Outline, slip_flat}
-use Rattle.cases.specs.Visits.{shared}
+use Rattle.bench.specs.Model.{Outline, shared, slip_flat}
 
 -- rack and slate have the visit of the slip, or none, and during a visit the same sides
 pub record Holds (slip : Option Slip) (rack slate : Outline) : Type 0 where

@@ -1,7 +1,6 @@
 // The making of a call.
 ghost use Rattle.std.specs.Prelude.{◌≡◌};
-ghost use Rattle.bench.specs.Model.{rack_outline};
-ghost use Rattle.cases.specs.Visits.{shared};
+ghost use Rattle.bench.specs.Model.{rack_outline, shared};
 
 use crate::line::Line;
 use crate::reply::Reply;
@@ -18,7 +17,7 @@ use std::io::ErrorKind;
 
 // Makes the call of a line that fills a place of a rack. Its last number tells how many levels a load takes: the first or the last
 // ones of the kind's picture, or highest ones.
-#[tactic(auto, using(crate::proofs::Slips::stored_shared, crate::proofs::Slips::made_shared))]
+#[tactic(auto, using(bench::proofs::Visits::stored_shared, bench::proofs::Visits::made_shared))]
 fn fill<L: Level>(
     heap: Global,
     kind: &Kind<'_, L>,

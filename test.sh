@@ -11,5 +11,6 @@ if grep -Eq '^rt: ok.*, [1-9][0-9]* bad' "$said"; then
     exit 1
 fi
 tests/refused.sh
-tests/files.sh
+# The walljob that the gate has built and proved.
+tests/files.sh "$PWD/crates/walljob/out/walljob"
 tail -n 1 "$said"

@@ -1,7 +1,8 @@
 #!/usr/bin/env bash
-# Builds walljob, and runs it on files that are missing, empty or full of NULs, and on inputs at the limit of 65,536 bytes.
+# Runs walljob on files that are missing, empty or full of NULs, and on inputs at the limit of 65,536 bytes.
+# Its argument is the program to run; without one it builds it first.
 set -eu
-program=$("$(dirname "$0")/build.sh")
+program=${1:-$("$(dirname "$0")/build.sh")}
 room=$(mktemp -d)
 trap 'rm -rf "$room"' EXIT
 cd "$room"

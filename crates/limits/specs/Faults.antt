@@ -1,7 +1,7 @@
 -- The refusals and their numbers, and what a call tells and leaves by them. Assumes nothing.
 use Rattle.std.specs.Prelude.{ℕ, Bool, cond, Some, None, Ok, Err, Option, Result}
 use Rattle.limits.specs.declared.fault.Fault.{Fault}
-use Rattle.limits.specs.declared.fault.Fault.TheVariants.{Side, Places, Memory, Length, SheetPlace, TallyPlace, FactorOrHeight, BuiltIn, Flat, NoVisit, VisitOpen, OtherFlat, EmptySheet, EmptyTally, Unequal}
+use Rattle.limits.specs.declared.fault.Fault.TheVariants.{Side, Places, Memory, Length, SheetPlace, TallyPlace, SizeOrDepth, ListLength, FactorOrHeight, BuiltIn, Flat, RestoreCell, NoVisit, VisitOpen, OtherFlat, EmptySheet, EmptyTally, Weight, Unequal}
 
 -- the number of a refusal
 abbrev pub fault_number : Fault → ℕ
@@ -11,14 +11,18 @@ fault_number Memory = 3
 fault_number Length = 4
 fault_number SheetPlace = 5
 fault_number TallyPlace = 6
+fault_number SizeOrDepth = 7
+fault_number ListLength = 8
 fault_number FactorOrHeight = 9
 fault_number BuiltIn = 10
 fault_number Flat = 11
+fault_number RestoreCell = 21
 fault_number NoVisit = 31
 fault_number VisitOpen = 32
 fault_number OtherFlat = 33
 fault_number EmptySheet = 34
 fault_number EmptyTally = 35
+fault_number Weight = 36
 fault_number Unequal = 37
 
 -- a fault if the test says so, and else what the rest finds

@@ -8,6 +8,10 @@ use Rattle.limits.specs.Faults.{first}
 abbrev pub lawful_side : ℕ → Bool
 lawful_side side = nat_le 1 side && nat_le side 1024
 
+-- a size of an opening or a closing, or the depth of a skeleton or a spectrum, is 1 to 64
+abbrev pub lawful_size : ℕ → Bool
+lawful_size k = nat_le 1 k && nat_le k 64
+
 -- Sizes: sides 1 to 1,024, then 1 to 12 places, then memory of exactly (places + working) × w × h cells, where `working` counts
 -- the working planes, two for a rack and none for a slate.
 abbrev pub sizes_refusal : ℕ → ℕ → ℕ → ℕ → ℕ → Option Fault

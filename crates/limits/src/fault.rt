@@ -17,12 +17,18 @@ pub enum Fault {
     SheetPlace = 5,
     /// No tally place has this number.
     TallyPlace = 6,
-    /// A cut height is not 1 to the kind's top. (A factor outside its limits has the same number.)
+    /// A size or a depth is outside its limits.
+    SizeOrDepth = 7,
+    /// The list for a spectrum or of a skeleton has not the length that depth and sides ask for.
+    ListLength = 8,
+    /// A factor is not −100 to 100, or a cut height not 1 to the kind's top.
     FactorOrHeight = 9,
     /// No built-in element has this number.
     BuiltIn = 10,
     /// A flat number is not 1 to 9,999.
     Flat = 11,
+    /// A cell to be restored is above 65,536 before the last dilations.
+    RestoreCell = 21,
     /// No visit is open on the rack, or on the slate where it is taken alone.
     NoVisit = 31,
     /// A visit is open on the rack or on the slate.
@@ -33,6 +39,8 @@ pub enum Fault {
     EmptySheet = 34,
     /// The source place holds no tally.
     EmptyTally = 35,
+    /// The weight of the tally to be made is above 1,000.
+    Weight = 36,
     /// Rack and slate differ in their sides or in the flat of their visits.
     Unequal = 37,
 }

@@ -10,8 +10,8 @@ use Rattle.morphology.specs.declared.operation.Operation.TheVariants.{Erosion, D
 abbrev pub two_sheets_answer : ℕ → ℕ → ℕ → ℕ → ℕ → Result (Unit {0}) Fault
 two_sheets_answer w h one other to = lists_answer w h (one ∷ other ∷ to ∷ [])
 
--- two sheets of the same sides, taken together cell by cell
-abbrev pub cell_by_cell : (ℕ → ℕ → ℕ) → List ℕ → List ℕ → List ℕ
+-- two sheets of the same sides, or two tallies, taken together cell by cell
+abbrev pub cell_by_cell : {X Y : Type 0} → (X → X → Y) → List X → List X → List Y
 cell_by_cell op [] g = []
 cell_by_cell op (x ∷ f) [] = []
 cell_by_cell op (x ∷ f) (y ∷ g) = op x y ∷ cell_by_cell op f g

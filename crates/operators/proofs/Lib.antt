@@ -1,0 +1,14 @@
+pub mod Cuts
+pub mod Cells
+pub mod Extremes
+pub mod Reading
+pub mod ElementLaws
+pub mod Maps
+pub mod Openings
+pub mod Closings
+pub mod Rounds
+pub mod Reconstruction
+pub mod Sums
+pub mod SumsOfCuts
+pub mod Skeletons
+pub mod Spectra

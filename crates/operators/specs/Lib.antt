@@ -1,0 +1,10 @@
+pub mod Maps
+pub mod Sums
+pub mod Pairs
+pub mod Openings
+pub mod Closings
+pub mod Reconstruction
+pub mod Tallies
+pub mod Skeletons
+pub mod Spectra
+pub mod Figures

@@ -1,0 +1,101 @@
+-- What each call refuses, in the order in which it is tried. Assumes nothing.
+use Rattle.std.specs.Prelude.{ℕ, ◌+◌, ◌*◌, Bool, not, ◌&&◌, List, length, ℤ, is_some, None, Option, ◌==◌, nat_le, nat_lt, unsigned_abs}
+use Rattle.std.specs.List.{list_any}
+use Rattle.limits.specs.declared.fault.Fault.{Fault}
+use Rattle.limits.specs.declared.fault.Fault.TheVariants.{Side, Length, SheetPlace, TallyPlace, SizeOrDepth, ListLength, FactorOrHeight, RestoreCell, NoVisit, EmptySheet, EmptyTally, Weight, Unequal}
+use Rattle.limits.specs.Faults.{first}
+use Rattle.limits.specs.Sizes.{lawful_side, lawful_size}
+use Rattle.bench.specs.Model.{Outline, State, Tally, is_place}
+use Rattle.bench.specs.Calls.{begin_refusal, end_refusal, equal_benches, load_refusal, make_refusal, sheet_refusal}
+use Rattle.calls.specs.Told.{show_sheet_refusal, show_tally_refusal}
+use Rattle.operators.specs.Skeletons.{rebuilt}
+use Rattle.runs.specs.Calls.{Call, Begin, End, Load, Erode, Dilate, Open, Close, Meet, Join, Regrow, Edge, Peak, Valley, Differ, Add, Scale, Area, Span, Spectrum, Skeleton, ShowSheet, ShowTally}
+use Rattle.runs.specs.Tallies.{lawful_factor, lawful_weight, tally_of}
+
+-- opening and closing: the places, then the size, then the visit, then the source
+abbrev pub sized_refusal : Outline → ℕ → ℕ → ℕ → Option Fault
+sized_refusal o size from to =
+    first (not (is_place o.places from && is_place o.places to)) SheetPlace
+    (first (not (lawful_size size)) SizeOrDepth
+    (first (not (is_some o.visit)) NoVisit
+    (first (not (o.filled from)) EmptySheet None)))
+
+-- A tally made of two sheets, the same or not: the sheet places, then the tally place, then the visit on the rack, then the sources,
+-- then rack and slate equal.
+abbrev pub difference_refusal : Outline → Outline → ℕ → ℕ → ℕ → Option Fault
+difference_refusal rack slate one other to =
+    first (not (is_place rack.places one && is_place rack.places other)) SheetPlace
+    (first (not (is_place slate.places to)) TallyPlace
+    (first (not (is_some rack.visit)) NoVisit
+    (first (not (rack.filled one && rack.filled other)) EmptySheet
+    (first (not (equal_benches rack slate)) Unequal None))))
+
+-- add: the places, then the visit on the slate, then the sources, then the weight of the sum
+abbrev pub add_refusal : State Tally → ℕ → ℕ → ℕ → Option Fault
+add_refusal s one other to =
+    let o = s.outline in
+    first (not (is_place o.places one && is_place o.places other && is_place o.places to)) TallyPlace
+    (first (not (is_some o.visit)) NoVisit
+    (first (not (o.filled one && o.filled other)) EmptyTally
+    (first (not (lawful_weight ((tally_of s one).weight + (tally_of s other).weight))) Weight None)))
+
+-- scale: the places, then the factor, then the visit on the slate, then the source, then the weight of the multiple
+abbrev pub scale_refusal : State Tally → ℤ → ℕ → ℕ → Option Fault
+scale_refusal s factor from to =
+    let o = s.outline in
+    first (not (is_place o.places from && is_place o.places to)) TallyPlace
+    (first (not (lawful_factor factor)) FactorOrHeight
+    (first (not (is_some o.visit)) NoVisit
+    (first (not (o.filled from)) EmptyTally
+    (first (not (lawful_weight (unsigned_abs factor * (tally_of s from).weight))) Weight None))))
+
+-- A list told of a sheet: the place, then the depth, then the length of the list, then the visit and the sheet.
+abbrev pub listing_refusal : Outline → ℕ → ℕ → ℕ → ℕ → Option Fault
+listing_refusal o depth place len wanted =
+    first (not (is_place o.places place)) SheetPlace
+    (first (not (lawful_size depth)) SizeOrDepth
+    (first (not (len == wanted)) ListLength
+    (sheet_refusal o place)))
+
+-- spectrum: a list of two entries for each size up to the depth, and the rest
+abbrev pub spectrum_refusal : Outline → ℕ → ℕ → ℕ → Option Fault
+spectrum_refusal o depth place len = listing_refusal o depth place len (2 * depth + 1)
+
+-- skeleton: a list of a piece for each size from 0 to the depth
+abbrev pub skeleton_refusal : Outline → ℕ → ℕ → ℕ → Option Fault
+skeleton_refusal o depth place len = listing_refusal o depth place len ((depth + 1) * (o.w * o.h))
+
+-- Restore: the sides, then the lengths of the answer list and the work list, then the depth and the size, then the length of the
+-- skeleton list, then a cell that is above 65,536 before the last dilations.
+abbrev pub restore_refusal : (List ℕ → List ℕ) → ℕ → ℕ → ℕ → ℕ → List ℕ → ℕ → ℕ → Option Fault
+restore_refusal swell w h depth size pieces answer_len work_len =
+    first (not (lawful_side w && lawful_side h)) Side
+    (first (not (answer_len == w * h && work_len == w * h)) Length
+    (first (not (lawful_size depth && nat_le size depth)) SizeOrDepth
+    (first (not (length pieces == (depth + 1) * (w * h))) ListLength
+    (first (list_any (nat_lt 65536) (rebuilt swell (w * h) depth pieces (depth - size))) RestoreCell None))))
+
+-- the refusal of each call
+abbrev pub refusal : {X : Type 0} → State (List ℕ) → State Tally → Call X → Option Fault
+refusal rack slate (Begin flat) = begin_refusal rack.outline slate.outline flat
+refusal rack slate (End flat) = end_refusal rack.outline slate.outline flat
+refusal rack slate (Load place picture) = load_refusal rack.outline place (length picture)
+refusal rack slate (Erode element from to) = make_refusal rack.outline from from to
+refusal rack slate (Dilate element from to) = make_refusal rack.outline from from to
+refusal rack slate (Open element size from to) = sized_refusal rack.outline size from to
+refusal rack slate (Close element size from to) = sized_refusal rack.outline size from to
+refusal rack slate (Meet one other to) = make_refusal rack.outline one other to
+refusal rack slate (Join one other to) = make_refusal rack.outline one other to
+refusal rack slate (Regrow element marker upper to) = make_refusal rack.outline marker upper to
+refusal rack slate (Edge element from to) = difference_refusal rack.outline slate.outline from from to
+refusal rack slate (Peak element from to) = difference_refusal rack.outline slate.outline from from to
+refusal rack slate (Valley element from to) = difference_refusal rack.outline slate.outline from from to
+refusal rack slate (Differ one other to) = difference_refusal rack.outline slate.outline one other to
+refusal rack slate (Add one other to) = add_refusal slate one other to
+refusal rack slate (Scale factor from to) = scale_refusal slate factor from to
+refusal rack slate (Area place) = sheet_refusal rack.outline place
+refusal rack slate (Span place) = sheet_refusal rack.outline place
+refusal rack slate (Spectrum element depth place len) = spectrum_refusal rack.outline depth place len
+refusal rack slate (Skeleton element depth place len) = skeleton_refusal rack.outline depth place len
+refusal rack slate (ShowSheet place len) = show_sheet_refusal rack.outline place len
+refusal rack slate (ShowTally place len) = show_tally_refusal slate.outline place len

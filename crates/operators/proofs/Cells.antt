@@ -1,9 +1,9 @@
 -- Sheets cell by cell: what two make together, and a cut, at each place; the order of sheets; and the area. Assumes nothing.
-use Rattle.std.proofs.Common.{◌≡◌, ℕ, zero, suc, ◌+◌, ◌≤◌, min, List, [], ◌∷◌, length, get_or, sym, refl, ap, arith}
+use Rattle.std.proofs.Common.{◌≡◌, ℕ, zero, suc, ◌+◌, ◌≤◌, ◌<◌, max, min, List, [], ◌∷◌, length, get_or, sym, refl, ap, arith}
 use Rattle.std.proofs.lemmas.Bool.Decides.{nat_tests}
 use Rattle.std.proofs.lemmas.Grind.{same_number_lists}
 use Rattle.std.proofs.lemmas.List.Sums.{sum_by-cons}
-use Rattle.morphology.specs.Cells.{cell_by_cell, cut, met}
+use Rattle.morphology.specs.Cells.{cell_by_cell, cut, joined, met}
 use Rattle.morphology.specs.Sheets.{area}
 use Rattle.operators.specs.Maps.{Below}
 use Rattle.operators.specs.Sums.{Topped}
@@ -22,14 +22,29 @@ get_or-cell_by_cell op (x ∷ f) [] p d e same past = absurd (omega arith)
 get_or-cell_by_cell op (x ∷ f) (y ∷ g) zero d e same past = refl
 get_or-cell_by_cell op (x ∷ f) (y ∷ g) (suc p) d e same past = get_or-cell_by_cell op f g p d e (omega arith) past
 
--- the cut of a meet is the meet of the cuts
+-- two lists of any lengths taken together: as long as the shorter
+pub length-shorter : {X Y : Type 0} (op : X → X → Y) (f g : List X) → length (cell_by_cell op f g) ≡ min (length f) (length g)
+length-shorter op [] g = omega arith
+length-shorter op (x ∷ f) [] = omega arith
+length-shorter op (x ∷ f) (y ∷ g) = omega (arith, length-shorter op f g)
+
+pub get_or-shorter : {X Y : Type 0} (op : X → X → Y) (f g : List X) (p : ℕ) (d : X) (e : Y) → p < min (length f) (length g) → get_or (cell_by_cell op f g) p e ≡ op (get_or f p d) (get_or g p d)
+get_or-shorter op [] g p d e within = absurd (omega arith)
+get_or-shorter op (x ∷ f) [] p d e within = absurd (omega arith)
+get_or-shorter op (x ∷ f) (y ∷ g) zero d e within = refl
+get_or-shorter op (x ∷ f) (y ∷ g) (suc p) d e within = get_or-shorter op f g p d e (omega arith)
+
+-- the cut of two sheets taken together is their cuts taken together, where that holds of two heights
+pub cut-cell_by_cell : (op : ℕ → ℕ → ℕ) (a : ℕ) → ((x y : ℕ) → cut_height a (op x y) ≡ op (cut_height a x) (cut_height a y)) → (f g : List ℕ) → cut a (cell_by_cell op f g) ≡ cell_by_cell op (cut a f) (cut a g)
+cut-cell_by_cell op a each [] g = refl
+cut-cell_by_cell op a each (x ∷ f) [] = refl
+cut-cell_by_cell op a each (x ∷ f) (y ∷ g) = λ i. each x y i ∷ cut-cell_by_cell op a each f g i
+
 pub cut-met : (a : ℕ) (f g : List ℕ) → cut a (met f g) ≡ met (cut a f) (cut a g)
-cut-met a [] g = refl
-cut-met a (x ∷ f) [] = refl
-cut-met a (x ∷ f) (y ∷ g) = λ i. at_height i ∷ cut-met a f g i
-  where
-    at_height : cut_height a (min x y) ≡ min (cut_height a x) (cut_height a y)
-    at_height = grind (arith, nat_tests)
+cut-met a = cut-cell_by_cell min a (λ x y. grind (arith, nat_tests))
+
+pub cut-joined : (a : ℕ) (f g : List ℕ) → cut a (joined f g) ≡ joined (cut a f) (cut a g)
+cut-joined a = cut-cell_by_cell max a (λ x y. grind (arith, nat_tests))
 
 -- two sheets of one length, each nowhere above the other, are equal
 pub same_from_below : (f g : List ℕ) → length f ≡ length g → Below f g → Below g f → f ≡ g

@@ -1,10 +1,8 @@
 -- Flat operators: their iterates, their products, and what they keep. Assumes nothing.
 use Rattle.std.proofs.Common.{◌≡◌, ℕ, zero, suc, ◌+◌, ◌≤◌, List, length, get_or, sym, refl, ap, ◌∙◌, arith}
-use Rattle.std.proofs.lemmas.Bool.Decides.{nat_tests}
-use Rattle.morphology.specs.Cells.{cut}
 use Rattle.operators.specs.Maps.{Below, FlatOperator, times}
 use Rattle.operators.specs.Sums.{Topped}
-use Rattle.operators.proofs.Cuts.{cut_above, cut_height, get_or-cut}
+use Rattle.operators.proofs.Cuts.{cuts_alike, sheet_topped}
 
 pub below_same : (f : List ℕ) → Below f f
 below_same f p = omega arith
@@ -13,12 +11,6 @@ pub below_after : (f g h : List ℕ) → Below f g → Below g h → Below f h
 below_after f g h one two p =
     let first : get_or f p 0 ≤ get_or g p 0 = one p in
     let second : get_or g p 0 ≤ get_or h p 0 = two p in
-    omega arith
-
-pub below_topped : (top : ℕ) (f g : List ℕ) → Below f g → Topped top g → Topped top f
-below_topped top f g below t p =
-    let first : get_or f p 0 ≤ get_or g p 0 = below p in
-    let second : get_or g p 0 ≤ top = t p in
     omega arith
 
 -- one time more before is one time more after
@@ -45,16 +37,7 @@ module _ (cells : ℕ) where
   flat_times map F zero = flat_same
   flat_times map F (suc k) = flat_after (times k map) map (flat_times map F k) F
 
-  -- a flat operator keeps the top, since at two heights above it all cuts are alike
+  -- a flat operator keeps the top, since above it all cuts are alike
   pub flat_topped : (map : List ℕ → List ℕ) → FlatOperator cells map → (top : ℕ) (f : List ℕ) → length f ≡ cells → Topped top f → Topped top (map f)
-  flat_topped map F top f long t p =
-      let x = get_or (map f) p 0 in
-      let low : 1 ≤ suc top = omega arith in
-      let high : 1 ≤ suc top + x = omega arith in
-      let alike : cut (suc top) f ≡ cut (suc top + x) f =
-      cut_above top (suc top) f t (omega arith) ∙ sym (cut_above top (suc top + x) f t (omega arith)) in
-      let same : cut_height (suc top) x ≡ cut_height (suc top + x) x =
-      sym (get_or-cut (suc top) (map f) p low)
-      ∙ ap (λ g. get_or g p 0) (sym (F.cuts (suc top) f low long) ∙ ap map alike ∙ F.cuts (suc top + x) f high long)
-      ∙ get_or-cut (suc top + x) (map f) p high in
-      grind (arith, nat_tests)
+  flat_topped map F top f long t = sheet_topped top (map f) (λ j.
+      sym (F.cuts (suc top) f (omega arith) long) ∙ ap map (cuts_alike top f t j) ∙ F.cuts (suc top + j) f (omega arith) long)

@@ -1,10 +1,12 @@
 -- Sums over the heights from 1 to a top, of numbers and of lists. Assumes nothing.
-use Rattle.std.proofs.Common.{◌≡◌, ℕ, zero, suc, ◌+◌, ◌-◌, ◌≤◌, List, [], ◌∷◌, ◌++◌, map, length, get_or, sym, refl, ap, ◌∙◌, inl, inr, arith}
+use Rattle.std.proofs.Common.{min, ◌≡◌, ℕ, zero, suc, ◌+◌, ◌-◌, ◌≤◌, List, [], ◌∷◌, ◌++◌, map, length, get_or, sym, refl, ap, ◌∙◌, inl, inr, arith}
 use Rattle.std.proofs.lemmas.Bool.{cases_lt}
 use Rattle.std.proofs.Math.ListN.{get_or-append}
 use Rattle.std.proofs.lemmas.List.{get_or-append_right, length-append}
 use Rattle.morphology.specs.Cells.{cell_by_cell, cut}
 use Rattle.operators.specs.Sums.{ListOver, Topped, over_heights}
+use Rattle.std.proofs.lemmas.List.{get_or_past, length-map}
+use Rattle.operators.proofs.Cells.{get_or-shorter, length-shorter}
 use Rattle.operators.proofs.Cuts.{cut_height, topped_rest}
 
 module _ {X : Type 0} (op : X → X → X) (start : X) where
@@ -79,3 +81,31 @@ module _ {X : Type 0} (op : X → X → X) (start : X) where
       list_over_append top (make x y ∷ []) (cell_by_cell make f g) (λ a. make (cut_height a x) (cut_height a y) ∷ []) (λ a. cell_by_cell make (cut a f) (cut a g))
       (list_over_one idle top (make x y) (λ a. make (cut_height a x) (cut_height a y)) (each x y (s 0) (t 0)))
       (cells_over_cuts idle top make each f g (topped_rest top x f s) (topped_rest top y g t))
+
+  -- two lists taken together by the operation, and a list whose numbers each become what keeps the operation
+  pub list_over_added : op start start ≡ start → ((w x y z : X) → op (op w x) (op y z) ≡ op (op w y) (op x z)) → (top : ℕ) (xs ys : List X) (f g : ℕ → List X)
+      → ListOver op start top xs f → ListOver op start top ys g → ListOver op start top (cell_by_cell op xs ys) (λ a. cell_by_cell op (f a) (g a))
+  list_over_added idle swap top xs ys f g s t = record {
+    as_long = λ a low. length-shorter op (f a) (g a) ∙ (λ i. min (s.as_long a low i) (t.as_long a low i)) ∙ sym (length-shorter op xs ys);
+    number = λ k. elim (cases_lt k (min (length xs) (length ys))) [
+      | inl within ↦
+          get_or-shorter op xs ys k start start within ∙ (λ i. op (s.number k i) (t.number k i)) ∙ sym (over_both idle swap top (λ a. get_or (f a) k start) (λ a. get_or (g a) k start))
+          ∙ over_same top _ _ (λ a low. sym (get_or-shorter op (f a) (g a) k start start (rw (s.as_long a low, t.as_long a low) within)))
+      | inr past ↦
+          get_or_past (cell_by_cell op xs ys) k start (rw (length-shorter op xs ys) past) ∙ sym (over_start idle top)
+          ∙ over_same top _ _ (λ a low. sym (get_or_past (cell_by_cell op (f a) (g a)) k start (rw (length-shorter op (f a) (g a), s.as_long a low, t.as_long a low) past)))
+    ];
+  }
+
+  pub list_over_kept : (keep : X → X) → keep start ≡ start → ((x y : X) → keep (op x y) ≡ op (keep x) (keep y)) → (top : ℕ) (xs : List X) (f : ℕ → List X)
+      → ListOver op start top xs f → ListOver op start top (map keep xs) (λ a. map keep (f a))
+  list_over_kept keep idle kept top xs f s = record {
+    as_long = λ a low. length-map (f a) keep ∙ s.as_long a low ∙ sym (length-map xs keep);
+    number = λ k. kept_at xs k ∙ ap keep (s.number k) ∙ over_kept keep idle kept top (λ a. get_or (f a) k start)
+        ∙ over_same top _ _ (λ a low. sym (kept_at (f a) k));
+  }
+    where
+      kept_at : (ys : List X) (k : ℕ) → get_or (map keep ys) k start ≡ keep (get_or ys k start)
+      kept_at [] k = sym idle
+      kept_at (y ∷ ys) zero = refl
+      kept_at (y ∷ ys) (suc k) = kept_at ys k

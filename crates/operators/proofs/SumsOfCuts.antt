@@ -2,14 +2,17 @@
 use Rattle.std.proofs.Common.{◌≡◌, ℕ, zero, suc, ◌+◌, ◌-◌, ◌≤◌, min, List, [], ◌∷◌, ℤ, pos, ◌+ℤ◌, ◌-ℤ◌, sym, refl, ap, ◌∙◌, arith}
 use Rattle.std.proofs.lemmas.Bool.Decides.{nat_tests}
 use Rattle.std.proofs.lemmas.Int.{ints}
-use Rattle.morphology.specs.Cells.{cut}
+use Rattle.std.proofs.lemmas.List.{map-id}
+use Rattle.morphology.specs.declared.operation.Operation.{Operation}
+use Rattle.operators.proofs.Extremes.{extreme_cut}
+use Rattle.morphology.specs.Cells.{extreme_of, cut}
 use Rattle.morphology.specs.Sheets.{area}
 use Rattle.operators.specs.Skeletons.{minus}
 use Rattle.operators.specs.Sums.{IntListSum, ListSum, SheetsAreSumsOfCuts, Topped, int_sum_to, over_heights, sum_to}
 use Rattle.operators.specs.Tallies.{differed}
 use Rattle.operators.proofs.Cells.{area-cons}
-use Rattle.operators.proofs.Cuts.{cut_height, topped_rest}
-use Rattle.operators.proofs.Sums.{cells_over_cuts, list_over_append, list_over_none, list_over_one, over_both}
+use Rattle.operators.proofs.Cuts.{cuts_alike, height_topped, cut_height, topped_rest}
+use Rattle.operators.proofs.Sums.{cells_over_cuts, list_over_append, list_over_none, list_over_one, over_both, over_same}
 
 pub swap_sums : (w x y z : ℕ) → (w + x) + (y + z) ≡ (w + y) + (x + z)
 swap_sums w x y z = omega arith
@@ -67,3 +70,13 @@ area_over_cuts top (x ∷ f) t =
     ∙ (λ i. height_over_cuts top x (t 0) i + area_over_cuts top f (topped_rest top x f t) i)
     ∙ sym (over_both ◌+◌ 0 refl swap_sums top (λ a. cut_height a x) (λ a. area (cut a f)))
     ∙ ap (over_heights ◌+◌ 0 top) (λ i a. sym (area-cons (cut_height a x) (cut a f)) i)
+
+-- and its least and greatest height are the sums of those of its cuts
+pub extreme_over_cuts : (op : Operation) (top : ℕ) (f : List ℕ) → Topped top f → extreme_of op f ≡ sum_to top (λ a. extreme_of op (cut a f))
+extreme_over_cuts op top f t =
+    height_over_cuts top (extreme_of op f) (height_topped top (extreme_of op f) (λ j.
+    sym (extreme_of_cut (suc top) (omega arith)) ∙ ap (extreme_of op) (cuts_alike top f t j) ∙ extreme_of_cut (suc top + j) (omega arith)))
+    ∙ over_same ◌+◌ 0 top _ _ (λ a low. sym (extreme_of_cut a low))
+  where
+    extreme_of_cut : (a : ℕ) → 1 ≤ a → extreme_of op (cut a f) ≡ cut_height a (extreme_of op f)
+    extreme_of_cut a low = extreme_cut a low (λ x. x) op f ∙ ap (λ g. cut_height a (extreme_of op g)) (map-id f)

@@ -1,5 +1,5 @@
 -- What each call refuses, in the order in which it is tried. Assumes nothing.
-use Rattle.std.specs.Prelude.{ℕ, ◌+◌, ◌*◌, Bool, not, ◌&&◌, List, length, ℤ, is_some, None, Option, ◌==◌, nat_le, nat_lt, unsigned_abs}
+use Rattle.std.specs.Prelude.{ℕ, ◌+◌, ◌-◌, ◌*◌, not, ◌&&◌, List, length, ℤ, is_some, None, Option, ◌==◌, nat_le, nat_lt}
 use Rattle.std.specs.List.{list_any}
 use Rattle.limits.specs.declared.fault.Fault.{Fault}
 use Rattle.limits.specs.declared.fault.Fault.TheVariants.{Side, Length, SheetPlace, TallyPlace, SizeOrDepth, ListLength, FactorOrHeight, RestoreCell, NoVisit, EmptySheet, EmptyTally, Weight, Unequal}
@@ -10,7 +10,7 @@ use Rattle.bench.specs.Calls.{begin_refusal, end_refusal, equal_benches, load_re
 use Rattle.calls.specs.Told.{show_sheet_refusal, show_tally_refusal}
 use Rattle.operators.specs.Skeletons.{rebuilt}
 use Rattle.runs.specs.Calls.{Call, Begin, End, Load, Erode, Dilate, Open, Close, Meet, Join, Regrow, Edge, Peak, Valley, Differ, Add, Scale, Area, Span, Spectrum, Skeleton, ShowSheet, ShowTally}
-use Rattle.runs.specs.Tallies.{lawful_factor, lawful_weight, tally_of}
+use Rattle.runs.specs.Tallies.{lawful_factor, lawful_weight, multiple, sum_of_tallies, tally_of}
 
 -- opening and closing: the places, then the size, then the visit, then the source
 abbrev pub sized_refusal : Outline → ℕ → ℕ → ℕ → Option Fault
@@ -30,24 +30,22 @@ difference_refusal rack slate one other to =
     (first (not (rack.filled one && rack.filled other)) EmptySheet
     (first (not (equal_benches rack slate)) Unequal None))))
 
--- add: the places, then the visit on the slate, then the sources, then the weight of the sum
-abbrev pub add_refusal : State Tally → ℕ → ℕ → ℕ → Option Fault
-add_refusal s one other to =
-    let o = s.outline in
+-- add, where the sum has this weight: the places, then the visit on the slate, then the sources, then the weight
+abbrev pub add_refusal : Outline → ℕ → ℕ → ℕ → ℕ → Option Fault
+add_refusal o weight one other to =
     first (not (is_place o.places one && is_place o.places other && is_place o.places to)) TallyPlace
     (first (not (is_some o.visit)) NoVisit
     (first (not (o.filled one && o.filled other)) EmptyTally
-    (first (not (lawful_weight ((tally_of s one).weight + (tally_of s other).weight))) Weight None)))
+    (first (not (lawful_weight weight)) Weight None)))
 
--- scale: the places, then the factor, then the visit on the slate, then the source, then the weight of the multiple
-abbrev pub scale_refusal : State Tally → ℤ → ℕ → ℕ → Option Fault
-scale_refusal s factor from to =
-    let o = s.outline in
+-- scale, where the multiple has this weight: the places, then the factor, then the visit on the slate, then the source, then the weight
+abbrev pub scale_refusal : Outline → ℕ → ℤ → ℕ → ℕ → Option Fault
+scale_refusal o weight factor from to =
     first (not (is_place o.places from && is_place o.places to)) TallyPlace
     (first (not (lawful_factor factor)) FactorOrHeight
     (first (not (is_some o.visit)) NoVisit
     (first (not (o.filled from)) EmptyTally
-    (first (not (lawful_weight (unsigned_abs factor * (tally_of s from).weight))) Weight None))))
+    (first (not (lawful_weight weight)) Weight None))))
 
 -- A list told of a sheet: the place, then the depth, then the length of the list, then the visit and the sheet.
 abbrev pub listing_refusal : Outline → ℕ → ℕ → ℕ → ℕ → Option Fault
@@ -91,8 +89,9 @@ refusal rack slate (Edge element from to) = difference_refusal rack.outline slat
 refusal rack slate (Peak element from to) = difference_refusal rack.outline slate.outline from from to
 refusal rack slate (Valley element from to) = difference_refusal rack.outline slate.outline from from to
 refusal rack slate (Differ one other to) = difference_refusal rack.outline slate.outline one other to
-refusal rack slate (Add one other to) = add_refusal slate one other to
-refusal rack slate (Scale factor from to) = scale_refusal slate factor from to
+refusal rack slate (Add one other to) =
+    add_refusal slate.outline (sum_of_tallies (tally_of slate one) (tally_of slate other)).weight one other to
+refusal rack slate (Scale factor from to) = scale_refusal slate.outline (multiple factor (tally_of slate from)).weight factor from to
 refusal rack slate (Area place) = sheet_refusal rack.outline place
 refusal rack slate (Span place) = sheet_refusal rack.outline place
 refusal rack slate (Spectrum element depth place len) = spectrum_refusal rack.outline depth place len

@@ -1,5 +1,5 @@
 -- What each call leaves of a bench and tells, where it is accepted; a step, and a run of calls. Assumes nothing.
-use Rattle.std.specs.Prelude.{ℕ, List, [], ◌∷◌, ℤ, Result, Option}
+use Rattle.std.specs.Prelude.{ℕ, List, [], ◌∷◌, Result}
 use Rattle.elements.specs.declared.element.Element.{Element}
 use Rattle.elements.specs.Elements.{offsets}
 use Rattle.limits.specs.declared.fault.Fault.{Fault}
@@ -8,7 +8,7 @@ use Rattle.morphology.specs.declared.operation.Operation.TheVariants.{Erosion, D
 use Rattle.morphology.specs.Cells.{joined, met}
 use Rattle.morphology.specs.Erosion.{dilated, eroded}
 use Rattle.morphology.specs.Sheets.{area}
-use Rattle.bench.specs.Model.{Outline, State, Tally, sheet_of}
+use Rattle.bench.specs.Model.{State, Tally, sheet_of}
 use Rattle.bench.specs.Calls.{Making, as_opened, by_element, ended, stored, visited}
 use Rattle.calls.specs.Told.{extreme_spot}
 use Rattle.operators.specs.Closings.{closing, inner_eroded}

@@ -1,5 +1,5 @@
 -- The tallies that calls make, with their weights. No cell exceeds weight × 65,536 in size. Assumes nothing.
-use Rattle.std.specs.Prelude.{ℕ, ◌+◌, ◌*◌, Bool, [], List, ℤ, Some, None, Option, nat_le, unsigned_abs, unwrap_or}
+use Rattle.std.specs.Prelude.{ℕ, ◌+◌, ◌*◌, Bool, [], List, ℤ, nat_le, unsigned_abs, unwrap_or}
 use Rattle.bench.specs.Model.{State, Tally}
 use Rattle.operators.specs.Tallies.{added, differed, scaled}
 

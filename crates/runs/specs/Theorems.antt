@@ -1,6 +1,6 @@
 -- What holds of every run of calls on a bench of any level kind. Of a kind only the height of each level and its top are used.
 -- Assumes nothing.
-use Rattle.std.specs.Prelude.{◌≡◌, ℕ, ◌*◌, ◌≤◌, List, [], ◌∷◌, map, drop, sum, None, Ok}
+use Rattle.std.specs.Prelude.{◌≡◌, ℕ, ◌*◌, ◌≤◌, List, ◌∷◌, map, drop, sum, None, Ok}
 use Rattle.elements.specs.declared.element.Element.{Element}
 use Rattle.morphology.specs.Cells.{cut}
 use Rattle.morphology.specs.Sheets.{area}
@@ -9,79 +9,76 @@ use Rattle.operators.specs.Openings.{opening}
 use Rattle.operators.specs.Skeletons.{restored}
 use Rattle.runs.specs.Calls.{Call, Begin, Skeleton, Spectrum, SkeletonTold, SlipTold, SpectrumTold, with_picture}
 use Rattle.runs.specs.Refusals.{restore_refusal}
-use Rattle.runs.specs.Steps.{Bench, Opening, after, answer, opened_bench, shrink, swell}
+use Rattle.runs.specs.Steps.{Opening, after, answer, opened_bench, shrink, swell}
 use Rattle.runs.specs.Sums.{AnswerSum, BenchSum}
 
--- the same sides and as many places
-pub record SameSizes (o p : Outline) : Type 0 where
-  pub w : o.w ≡ p.w
-  pub h : o.h ≡ p.h
-  pub places : o.places ≡ p.places
+-- the sides and the number of places of a rack or a slate
+abbrev pub sizes_of : Outline → ℕ × ℕ × ℕ
+sizes_of o = (o.w, o.h, o.places)
 
 -- two benches are opened alike
 pub record OpenedAlike (o p : Opening) : Type 0 where
-  pub rack : SameSizes (opened_bench o).rack.outline (opened_bench p).rack.outline
-  pub slate : SameSizes (opened_bench o).slate.outline (opened_bench p).slate.outline
+  pub rack : sizes_of (opened_bench o).rack.outline ≡ sizes_of (opened_bench p).rack.outline
+  pub slate : sizes_of (opened_bench o).slate.outline ≡ sizes_of (opened_bench p).slate.outline
 
 -- the heights from 0 to a top, a level kind for each top
 abbrev pub HeightsTo : ℕ → Type 0
 HeightsTo top = (x : ℕ) × (x ≤ top)
 
-module _ {X : Type 0} (height : X → ℕ) (top : ℕ) where
-  -- a call with the heights of its picture's levels, and the same call with them cut at a height
-  abbrev pub in_heights : Call X → Call ℕ
-  in_heights = with_picture (map height)
+-- a call with the heights of its picture's levels, and the same call with them cut at a height
+abbrev pub in_heights : {X : Type 0} → (X → ℕ) → Call X → Call ℕ
+in_heights height = with_picture (map height)
 
-  abbrev pub cut_at : ℕ → Call X → Call ℕ
-  cut_at a = with_picture (λ picture. cut a (map height picture))
+abbrev pub cut_at : {X : Type 0} → (X → ℕ) → ℕ → Call X → Call ℕ
+cut_at height a = with_picture (λ picture. cut a (map height picture))
 
-  -- Mask sums. The same calls run with every picture cut at a height, for each height from 1 on and each on a bench of its own that
-  -- was opened alike: whatever was called before, the benches and the answers to the next call are made up of those of the masks.
-  abbrev pub MaskSums : Type 0
-  MaskSums = (o : Opening) (masks : ℕ → Opening) → ((a : ℕ) → OpenedAlike (masks a) o) → (calls : List (Call X)) (next : Call X) →
-      let b = after (opened_bench o) (map in_heights calls) in
-      let bs = (λ (a : ℕ). after (opened_bench (masks a)) (map (cut_at a) calls)) in
-      BenchSum top b bs × AnswerSum top (answer b (in_heights next)) (λ a. answer (bs a) (cut_at a next))
+-- Mask sums. The same calls run with every picture cut at a height, for each height from 1 on and each on a bench of its own that
+-- was opened alike: whatever was called before, the benches and the answers to the next call are made up of those of the masks.
+abbrev pub MaskSums : {X : Type 0} → (X → ℕ) → ℕ → Type 0
+MaskSums {X} height top = (o : Opening) (masks : ℕ → Opening) → ((a : ℕ) → OpenedAlike (masks a) o) → (calls : List (Call X)) (next : Call X) →
+    let b = after (opened_bench o) (map (in_heights height) calls) in
+    let bs = (λ (a : ℕ). after (opened_bench (masks a)) (map (cut_at height a) calls)) in
+    BenchSum top b bs × AnswerSum top (answer b (in_heights height next)) (λ a. answer (bs a) (cut_at height a next))
 
-  -- Restoring. From the skeleton that a call told of a sheet, restore with the same sides, depth and element, and with lists of the
-  -- right length, is not refused at any size up to the depth, and gives the opening of that size.
-  abbrev pub Restoring : Type 0
-  Restoring = (o : Opening) (calls : List (Call X)) (e : Element) (depth place len : ℕ) (pieces : List ℕ) →
-      let b = after (opened_bench o) (map in_heights calls) in
-      let w = b.rack.outline.w in
-      let h = b.rack.outline.h in
-      answer b (Skeleton e depth place len) ≡ Ok (SkeletonTold pieces) → (size : ℕ) → size ≤ depth →
-      (restore_refusal (swell e w h) w h depth size pieces (w * h) (w * h) ≡ None)
-      × (restored (swell e w h) (w * h) depth size pieces ≡ opening (shrink e w h) (swell e w h) size (sheet_of b.rack place))
+-- Restoring. From the skeleton that a call told of a sheet, restore with the same sides, depth and element, and with lists of the
+-- right length, is not refused at any size up to the depth, and gives the opening of that size.
+abbrev pub Restoring : {X : Type 0} → (X → ℕ) → Type 0
+Restoring {X} height = (o : Opening) (calls : List (Call X)) (e : Element) (depth place len : ℕ) (pieces : List ℕ) →
+    let b = after (opened_bench o) (map (in_heights height) calls) in
+    let w = b.rack.outline.w in
+    let h = b.rack.outline.h in
+    answer b (Skeleton e depth place len) ≡ Ok (SkeletonTold pieces) → (size : ℕ) → size ≤ depth →
+    (restore_refusal (swell e w h) w h depth size pieces (w * h) (w * h) ≡ None)
+    × (restored (swell e w h) (w * h) depth size pieces ≡ opening (shrink e w h) (swell e w h) size (sheet_of b.rack place))
 
-  -- So two sheets of the same sides with one skeleton, under one element and to one depth, are the same sheet.
-  abbrev pub SkeletonsTellSheets : Type 0
-  SkeletonsTellSheets = (o p : Opening) (calls others : List (Call X)) (e : Element) (depth place other len : ℕ) (pieces : List ℕ) →
-      let b = after (opened_bench o) (map in_heights calls) in
-      let c = after (opened_bench p) (map in_heights others) in
-      b.rack.outline.w ≡ c.rack.outline.w → b.rack.outline.h ≡ c.rack.outline.h →
-      answer b (Skeleton e depth place len) ≡ Ok (SkeletonTold pieces) → answer c (Skeleton e depth other len) ≡ Ok (SkeletonTold pieces) →
-      sheet_of b.rack place ≡ sheet_of c.rack other
+-- So two sheets of the same sides with one skeleton, under one element and to one depth, are the same sheet.
+abbrev pub SkeletonsTellSheets : {X : Type 0} → (X → ℕ) → Type 0
+SkeletonsTellSheets {X} height = (o p : Opening) (calls others : List (Call X)) (e : Element) (depth place other len : ℕ) (pieces : List ℕ) →
+    let b = after (opened_bench o) (map (in_heights height) calls) in
+    let c = after (opened_bench p) (map (in_heights height) others) in
+    b.rack.outline.w ≡ c.rack.outline.w → b.rack.outline.h ≡ c.rack.outline.h →
+    answer b (Skeleton e depth place len) ≡ Ok (SkeletonTold pieces) → answer c (Skeleton e depth other len) ≡ Ok (SkeletonTold pieces) →
+    sheet_of b.rack place ≡ sheet_of c.rack other
 
-  -- The entries of a spectrum from size 0 on, with the rest, sum to the area of the sheet.
-  abbrev pub SpectraTellAreas : Type 0
-  SpectraTellAreas = (o : Opening) (calls : List (Call X)) (e : Element) (depth place len : ℕ) (entries : List ℕ) →
-      let b = after (opened_bench o) (map in_heights calls) in
-      answer b (Spectrum e depth place len) ≡ Ok (SpectrumTold entries) → sum (drop depth entries) ≡ area (sheet_of b.rack place)
+-- The entries of a spectrum from size 0 on, with the rest, sum to the area of the sheet.
+abbrev pub SpectraTellAreas : {X : Type 0} → (X → ℕ) → Type 0
+SpectraTellAreas {X} height = (o : Opening) (calls : List (Call X)) (e : Element) (depth place len : ℕ) (entries : List ℕ) →
+    let b = after (opened_bench o) (map (in_heights height) calls) in
+    answer b (Spectrum e depth place len) ≡ Ok (SpectrumTold entries) → sum (drop depth entries) ≡ area (sheet_of b.rack place)
 
-  -- Forgetting. On two benches opened alike, whatever was called before on each, a begin that both accept makes all later calls
-  -- get the same answers.
-  abbrev pub Forgetting : Type 0
-  Forgetting = (o p : Opening) → OpenedAlike o p → (before others : List (Call X)) (flat : ℕ) →
-      let b = after (opened_bench o) (map in_heights before) in
-      let c = after (opened_bench p) (map in_heights others) in
-      answer b (Begin flat) ≡ Ok (SlipTold flat) → answer c (Begin flat) ≡ Ok (SlipTold flat) → (calls : List (Call X)) (next : Call X) →
-      answer (after b (Begin flat ∷ map in_heights calls)) (in_heights next) ≡ answer (after c (Begin flat ∷ map in_heights calls)) (in_heights next)
+-- Forgetting. On two benches opened alike, whatever was called before on each, a begin that both accept makes all later calls
+-- get the same answers.
+abbrev pub Forgetting : {X : Type 0} → (X → ℕ) → Type 0
+Forgetting {X} height = (o p : Opening) → OpenedAlike o p → (before others : List (Call X)) (flat : ℕ) →
+    let b = after (opened_bench o) (map (in_heights height) before) in
+    let c = after (opened_bench p) (map (in_heights height) others) in
+    answer b (Begin flat) ≡ Ok (SlipTold flat) → answer c (Begin flat) ≡ Ok (SlipTold flat) → (calls : List (Call X)) (next : Call X) →
+    answer (after b (Begin flat ∷ map (in_heights height) calls)) (in_heights height next) ≡ answer (after c (Begin flat ∷ map (in_heights height) calls)) (in_heights height next)
 
 -- All of these, of a level kind with this height for each level and this top.
 pub record RunLaws {X : Type 0} (height : X → ℕ) (top : ℕ) : Type 0 where
   pub sums : MaskSums height top
-  pub restoring : Restoring height top
-  pub skeletons : SkeletonsTellSheets height top
-  pub spectra : SpectraTellAreas height top
-  pub forgetting : Forgetting height top
+  pub restoring : Restoring height
+  pub skeletons : SkeletonsTellSheets height
+  pub spectra : SpectraTellAreas height
+  pub forgetting : Forgetting height

@@ -7,11 +7,9 @@ use levels::level::Level;
 /// What holds of every run of calls on a bench of a level kind: mask sums, restoring and forgetting.
 pub fn runs_of_a_kind<L: Level>()
     ensures { RunLaws L.height L.top }
-{
-}
+{}
 
 /// What holds of every run of calls, for every top from 1 to 65,536.
 pub fn runs_of_every_top()
     ensures { (top : ℕ) → 1 ≤ top → top ≤ 65536 → RunLaws (λ (x : HeightsTo top). x.0) top }
-{
-}
+{}

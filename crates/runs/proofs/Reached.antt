@@ -1,0 +1,68 @@
+-- What holds of every bench that a run reaches: the sizes it opened with, sheets of its sides and below the top, and, where no visit is
+-- open, the state that it opened with. Assumes nothing.
+use Rattle.std.proofs.Common.{◌≡◌, ℕ, ◌*◌, ◌≤◌, true, List, [], ◌∷◌, zero, suc, map, length, is_some, Some, None, Option, sym, refl, ap, arith}
+use Rattle.std.proofs.lemmas.Bool.{false≢true}
+use Rattle.bench.specs.Model.{State, Tally}
+use Rattle.bench.specs.Calls.{ended, opened, visited}
+use Rattle.operators.specs.Sums.{Topped}
+use Rattle.runs.specs.Steps.{Bench, with_sheet, with_tally}
+use Rattle.runs.specs.Theorems.{sizes_of}
+use Rattle.runs.proofs.Stored.{SheetsHeld, opened_held, stored_held}
+
+-- a rack or a slate is as it opened
+abbrev pub AsOpened : {C : Type 0} → State C → Type 0
+AsOpened s = s ≡ opened s.outline.w s.outline.h s.outline.places
+
+pub record Reached (top : ℕ) (start b : Bench) : Type 0 where
+  pub rack_sizes : sizes_of b.rack.outline ≡ sizes_of start.rack.outline
+  pub slate_sizes : sizes_of b.slate.outline ≡ sizes_of start.slate.outline
+  pub rack_closed : b.rack.outline.visit ≡ None → AsOpened b.rack
+  pub slate_closed : b.slate.outline.visit ≡ None → AsOpened b.slate
+  pub held : SheetsHeld top b.rack
+
+closed_open : {T : Type 0} (visit : Option ℕ) → is_some visit ≡ true → visit ≡ None → T
+closed_open None some closed = absurd (false≢true some)
+closed_open (Some flat) some closed = absurd (false≢true (sym (ap is_some closed)))
+
+module _ (top : ℕ) (start b : Bench) (r : Reached top start b) where
+  pub sheet_reached : (k : ℕ) (f : List ℕ) → is_some b.rack.outline.visit ≡ true → length f ≡ b.rack.outline.w * b.rack.outline.h → Topped top f → Reached top start (with_sheet b k f)
+  sheet_reached k f visit long t = record {
+    rack_sizes = r.rack_sizes;
+    slate_sizes = r.slate_sizes;
+    rack_closed = λ closed. closed_open b.rack.outline.visit visit closed;
+    slate_closed = r.slate_closed;
+    held = stored_held top b.rack k f r.held long t;
+  }
+
+  pub tally_reached : (k : ℕ) (t : Tally) → is_some b.slate.outline.visit ≡ true → Reached top start (with_tally b k t)
+  tally_reached k t visit = record {
+    rack_sizes = r.rack_sizes;
+    slate_sizes = r.slate_sizes;
+    rack_closed = r.rack_closed;
+    slate_closed = λ closed. closed_open b.slate.outline.visit visit closed;
+    held = r.held;
+  }
+
+  pub begin_reached : (flat : ℕ) → Reached top start (record { rack = visited b.rack flat; slate = visited b.slate flat })
+  begin_reached flat = record {
+    rack_sizes = r.rack_sizes;
+    slate_sizes = r.slate_sizes;
+    rack_closed = λ closed. closed_open (Some flat) refl closed;
+    slate_closed = λ closed. closed_open (Some flat) refl closed;
+    held = record { sized = r.held.sized; topped = r.held.topped };
+  }
+
+  pub end_reached : Reached top start (record { rack = ended b.rack; slate = ended b.slate })
+  end_reached = record {
+    rack_sizes = r.rack_sizes;
+    slate_sizes = r.slate_sizes;
+    rack_closed = λ closed. refl;
+    slate_closed = λ closed. refl;
+    held = opened_held top b.rack.outline.w b.rack.outline.h b.rack.outline.places;
+  }
+
+-- the heights of a picture of levels below the top
+pub picture_topped : {X : Type 0} (height : X → ℕ) (top : ℕ) → ((x : X) → height x ≤ top) → (picture : List X) → Topped top (map height picture)
+picture_topped height top bounded [] p = omega arith
+picture_topped height top bounded (x ∷ picture) zero = bounded x
+picture_topped height top bounded (x ∷ picture) (suc p) = picture_topped height top bounded picture p

@@ -4,6 +4,7 @@ use Rattle.std.specs.List.{list_all}
 use Rattle.std.specs.Ordering.{int_eq}
 use lib.Pointwise.{pointwise}
 use Rattle.elements.specs.BuiltIns.{pair}
+use Rattle.morphology.specs.Cells.{cut}
 use Rattle.morphology.specs.Erosion.{eroded, dilated}
 use Rattle.operators.specs.Closings.{closing, inner_eroded}
 use Rattle.operators.specs.Openings.{opening}
@@ -53,6 +54,9 @@ figures =
     -- reconstruction from a marker, and its changing rounds
     ∷ (map pos (reconstructed (swell 5) (0 ∷ 2 ∷ 0 ∷ 0 ∷ 0 ∷ []) line), pos 0 ∷ pos 2 ∷ pos 1 ∷ pos 1 ∷ pos 0 ∷ [])
     ∷ (pos (rounds (swell 5) (0 ∷ 2 ∷ 0 ∷ 0 ∷ 0 ∷ []) line) ∷ [], pos 2 ∷ [])
+    -- a line cut at height 1, and the opening of size 2 of two cells, which an opening of size 1 keeps
+    ∷ (map pos (cut 1 line), pos 0 ∷ pos 1 ∷ pos 1 ∷ pos 1 ∷ pos 0 ∷ [])
+    ∷ (map pos (opening (shrink 3) (swell 3) 2 (1 ∷ 1 ∷ 0 ∷ [])), pos 0 ∷ pos 0 ∷ pos 0 ∷ [])
     -- the spectrum to depth 1 of one cell of 5
     ∷ (map pos (spectrum (shrink 1) (swell 1) (recede 1) 1 (5 ∷ [])), pos 0 ∷ pos 5 ∷ pos 0 ∷ [])
     ∷ []

@@ -1,10 +1,9 @@
 pub mod Maps
-pub mod Sums
-pub mod Pairs
 pub mod Openings
 pub mod Closings
 pub mod Reconstruction
 pub mod Tallies
 pub mod Skeletons
+pub mod Restoring
 pub mod Spectra
 pub mod Figures

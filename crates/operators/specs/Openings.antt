@@ -1,17 +1,7 @@
--- Openings and their laws. Assumes nothing.
-use Rattle.std.specs.Prelude.{◌≡◌, ℕ, suc, List, length}
-use Rattle.operators.specs.Maps.{Below, FlatOperator, times}
-use Rattle.operators.specs.Pairs.{PairLaws}
+-- Openings. Assumes nothing.
+use Rattle.std.specs.Prelude.{ℕ, List}
+use Rattle.operators.specs.Maps.{times}
 
 -- opening of size k: k erosions, then k dilations; size 0 is the sheet itself
 abbrev pub opening : (List ℕ → List ℕ) → (List ℕ → List ℕ) → ℕ → List ℕ → List ℕ
 opening shrink swell k f = times k swell (times k shrink f)
-
--- Openings by a pair are flat operators, nowhere above the sheet, and fall with the size.
-pub record OpeningLaws (cells : ℕ) (shrink swell : List ℕ → List ℕ) : Type 0 where
-  pub flat : (k : ℕ) → FlatOperator cells (opening shrink swell k)
-  pub below : (k : ℕ) (f : List ℕ) → length f ≡ cells → Below (opening shrink swell k f) f
-  pub fall : (k : ℕ) (f : List ℕ) → length f ≡ cells → Below (opening shrink swell (suc k) f) (opening shrink swell k f)
-
-abbrev pub PairsOpen : Type 0
-PairsOpen = (cells : ℕ) (shrink swell : List ℕ → List ℕ) → PairLaws cells shrink swell → OpeningLaws cells shrink swell

@@ -1,10 +1,8 @@
--- Reconstruction of an upper sheet from a marker, and its laws. Assumes nothing.
-use Rattle.std.specs.Prelude.{◌≡◌, ℕ, zero, suc, ◌≤◌, ◌<◌, cond, ◌≢◌, List, length, bytes_eq}
-use Rattle.morphology.specs.Cells.{cut, met}
+-- Reconstruction of an upper sheet from a marker. Assumes nothing.
+use Rattle.std.specs.Prelude.{ℕ, zero, suc, cond, List, bytes_eq}
+use Rattle.morphology.specs.Cells.{met}
 use Rattle.morphology.specs.Sheets.{area}
-use Rattle.operators.specs.Maps.{Below, times}
-use Rattle.operators.specs.Pairs.{PairLaws}
-use Rattle.operators.specs.Sums.{Topped, greatest_to}
+use Rattle.operators.specs.Maps.{times}
 
 -- a round dilates and meets with the upper sheet
 abbrev pub round : (List ℕ → List ℕ) → List ℕ → List ℕ → List ℕ
@@ -23,20 +21,3 @@ rounds swell marker upper = changing_times (area upper) (round swell upper) (met
 -- the sheet after these rounds
 abbrev pub reconstructed : (List ℕ → List ℕ) → List ℕ → List ℕ → List ℕ
 reconstructed swell marker upper = times (rounds swell marker upper) (round swell upper) (met marker upper)
-
--- Reconstruction by a map that swells: a further round would change nothing and each of the told rounds changes a cell; it
--- commutes with cutting, and the rounds are the greatest of those of the cuts.
-pub record ReconstructionLaws (cells : ℕ) (swell : List ℕ → List ℕ) : Type 0 where
-  pub sheet : (f g : List ℕ) → length f ≡ cells → length g ≡ cells → length (reconstructed swell f g) ≡ cells
-  pub below : (f g : List ℕ) → length f ≡ cells → length g ≡ cells → Below (reconstructed swell f g) g
-  pub settled : (f g : List ℕ) → length f ≡ cells → length g ≡ cells →
-      round swell g (reconstructed swell f g) ≡ reconstructed swell f g
-  pub changing : (f g : List ℕ) → length f ≡ cells → length g ≡ cells → (t : ℕ) → t < rounds swell f g →
-      round swell g (times t (round swell g) (met f g)) ≢ times t (round swell g) (met f g)
-  pub cuts : (a : ℕ) (f g : List ℕ) → 1 ≤ a → length f ≡ cells → length g ≡ cells →
-      reconstructed swell (cut a f) (cut a g) ≡ cut a (reconstructed swell f g)
-  pub most_rounds : (top : ℕ) (f g : List ℕ) → length f ≡ cells → length g ≡ cells → Topped top g →
-      rounds swell f g ≡ greatest_to top (λ a. rounds swell (cut a f) (cut a g))
-
-abbrev pub PairsReconstruct : Type 0
-PairsReconstruct = (cells : ℕ) (shrink swell : List ℕ → List ℕ) → PairLaws cells shrink swell → ReconstructionLaws cells swell

@@ -1,10 +1,8 @@
--- Skeletons, restoring a sheet from one, and their laws. Assumes nothing.
-use Rattle.std.specs.Prelude.{◌≡◌, ℕ, zero, suc, ◌+◌, ◌-◌, ◌*◌, ◌≤◌, List, [], ◌++◌, length, take, drop}
-use Rattle.morphology.specs.Cells.{cell_by_cell, cut}
+-- Skeletons, and restoring a sheet from one. Assumes nothing.
+use Rattle.std.specs.Prelude.{ℕ, zero, suc, ◌+◌, ◌-◌, ◌*◌, List, [], ◌++◌, take, drop}
+use Rattle.morphology.specs.Cells.{cell_by_cell}
 use Rattle.operators.specs.Maps.{times}
 use Rattle.operators.specs.Openings.{opening}
-use Rattle.operators.specs.Pairs.{PairLaws}
-use Rattle.operators.specs.Sums.{ListSum, Topped}
 
 -- the heights of one sheet minus those of another that is nowhere above it, and their sums
 abbrev pub minus : List ℕ → List ℕ → List ℕ
@@ -39,17 +37,3 @@ rebuilt swell cells depth pieces (suc n) =
 -- restoring to size k: the pieces from the last down to piece k, then k times swollen
 abbrev pub restored : (List ℕ → List ℕ) → ℕ → ℕ → ℕ → List ℕ → List ℕ
 restored swell cells depth k pieces = times k swell (rebuilt swell cells depth pieces (depth - k))
-
--- A skeleton has a piece for each size up to its depth; what is rebuilt down to piece k is the sheet eroded k times, and restoring
--- to size k gives the opening of size k; a skeleton is the sum of those of the cuts.
-pub record SkeletonLaws (cells : ℕ) (shrink swell : List ℕ → List ℕ) : Type 0 where
-  pub long : (depth : ℕ) (f : List ℕ) → length f ≡ cells → length (skeleton shrink swell depth f) ≡ (depth + 1) * cells
-  pub rebuilds : (depth k : ℕ) (f : List ℕ) → length f ≡ cells → k ≤ depth →
-      rebuilt swell cells depth (skeleton shrink swell depth f) (depth - k) ≡ times k shrink f
-  pub restores : (depth k : ℕ) (f : List ℕ) → length f ≡ cells → k ≤ depth →
-      restored swell cells depth k (skeleton shrink swell depth f) ≡ opening shrink swell k f
-  pub sums : (top depth : ℕ) (f : List ℕ) → length f ≡ cells → Topped top f →
-      ListSum top (skeleton shrink swell depth f) (λ a. skeleton shrink swell depth (cut a f))
-
-abbrev pub PairsRestore : Type 0
-PairsRestore = (cells : ℕ) (shrink swell : List ℕ → List ℕ) → PairLaws cells shrink swell → SkeletonLaws cells shrink swell

@@ -1,10 +1,7 @@
-// What is made of erosion and dilation: openings, closings, reconstruction, skeletons, pattern spectra and differences, as
-// definitions with their laws. The functions below do nothing: the contract of each is a theorem about the definitions.
+// What is made of erosion and dilation, as definitions: openings, closings, reconstruction, skeletons, pattern spectra and
+// differences. The laws stand in the crate above.
 #![tactic(auto)]
 
-mod laws;
+mod figures;
 
-pub use laws::{
-    closing_laws, element_laws, opening_laws, reconstruction_laws, skeleton_laws, spectrum_laws,
-    worked_figures,
-};
+pub use figures::worked_figures;

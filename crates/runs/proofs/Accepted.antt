@@ -4,13 +4,13 @@ use Rattle.std.proofs.lemmas.Bool.{and_parts, false≢true}
 use Rattle.limits.specs.declared.fault.Fault.{Fault}
 use Rattle.limits.specs.declared.fault.Fault.TheVariants.{EmptySheet, SheetPlace, Unequal, VisitOpen}
 use Rattle.std.specs.Prelude.{◌==◌}
-use Rattle.runs.specs.Tallies.{lawful_factor}
+use Rattle.model.specs.Tallies.{lawful_factor}
 use Rattle.limits.specs.Faults.{first, tells, told}
 use Rattle.limits.specs.Sizes.{lawful_size}
 use Rattle.bench.specs.Model.{Outline, is_place}
 use Rattle.bench.specs.Calls.{begin_refusal, equal_benches, make_refusal, same_visit}
 use Rattle.bench.proofs.Refusals.{make_accepted, source_accepted}
-use Rattle.runs.specs.Refusals.{add_refusal, difference_refusal, listing_refusal, scale_refusal, sized_refusal}
+use Rattle.model.specs.Refusals.{add_refusal, difference_refusal, listing_refusal, scale_refusal, sized_refusal}
 
 -- a table that refuses nothing has passed the test that comes first, and refuses nothing after it
 pub passed : (test : Bool) (fault : Fault) (rest : Option Fault) → first (not test) fault rest ≡ None → (test ≡ true) × (rest ≡ None)

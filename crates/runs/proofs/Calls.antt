@@ -18,17 +18,17 @@ use Rattle.elements.specs.Elements.{offsets}
 use Rattle.operators.specs.Reconstruction.{rounds}
 use Rattle.operators.specs.Skeletons.{skeleton}
 use Rattle.operators.specs.Spectra.{spectrum}
-use Rattle.operators.specs.Sums.{ListSum, greatest_to, sum_to}
-use Rattle.operators.proofs.ElementLaws.{dilation_and_inner_erosion_close, erosion_and_dilation_are_pair}
-use Rattle.operators.proofs.Skeletons.{pairs_restore}
-use Rattle.operators.proofs.Spectra.{pairs_have_spectra}
-use Rattle.operators.proofs.Sums.{list_over_added, list_over_kept, list_over_same, over_same}
-use Rattle.operators.proofs.SumsOfCuts.{area_over_cuts, extreme_over_cuts, swap_int_sums}
-use Rattle.runs.specs.Calls.{Call, Begin, End, Load, Erode, Dilate, Open, Close, Meet, Join, Regrow, Edge, Peak, Valley, Differ, Add, Scale, Area, Span, Spectrum, Skeleton, ShowSheet, ShowTally, SheetTold}
-use Rattle.runs.specs.Refusals.{add_refusal, difference_refusal, refusal, scale_refusal, sized_refusal, skeleton_refusal, spectrum_refusal}
-use Rattle.runs.specs.Steps.{Bench, closed_by, leaves, made_of, opened_by, recede, regrown_by, shrink, swell, the_first, the_second, told_by, with_sheet, with_tally}
+use Rattle.laws.specs.Sums.{ListSum, greatest_to, sum_to}
+use Rattle.laws.proofs.ElementLaws.{dilation_and_inner_erosion_close, erosion_and_dilation_are_pair}
+use Rattle.laws.proofs.Skeletons.{pairs_restore}
+use Rattle.laws.proofs.Spectra.{pairs_have_spectra}
+use Rattle.laws.proofs.Sums.{list_over_added, list_over_kept, list_over_same, over_same}
+use Rattle.laws.proofs.SumsOfCuts.{area_over_cuts, extreme_over_cuts, swap_int_sums}
+use Rattle.model.specs.Calls.{Call, Begin, End, Load, Erode, Dilate, Open, Close, Meet, Join, Regrow, Edge, Peak, Valley, Differ, Add, Scale, Area, Span, Spectrum, Skeleton, ShowSheet, ShowTally, SheetTold}
+use Rattle.model.specs.Refusals.{add_refusal, difference_refusal, refusal, scale_refusal, sized_refusal, skeleton_refusal, spectrum_refusal}
+use Rattle.model.specs.Steps.{Bench, closed_by, leaves, made_of, opened_by, recede, regrown_by, shrink, swell, the_first, the_second, told_by, with_sheet, with_tally}
 use Rattle.runs.specs.Sums.{BenchSum, TallySum, ToldSum}
-use Rattle.runs.specs.Tallies.{difference, multiple, sum_of_tallies, tally_of}
+use Rattle.model.specs.Tallies.{difference, multiple, sum_of_tallies, tally_of}
 use Rattle.runs.specs.Theorems.{cut_at, in_heights}
 use Rattle.runs.proofs.Accepted.{Sources, add_visit, difference_sources, listing_listed, make_sources, scale_visit, sized_sources}
 use Rattle.runs.proofs.Makings.{CutMaking, closing_making, element_making, first_making, join_making, meet_making, opening_making, regrow_laws, regrow_making, second_making}

@@ -5,4 +5,4 @@ pub mod Reached
 pub mod Multiples
 pub mod Calls
 pub mod Runs
-pub mod Theorems
+pub mod RunLaws

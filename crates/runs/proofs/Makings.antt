@@ -8,18 +8,18 @@ use Rattle.morphology.specs.Cells.{cut, joined, met}
 use Rattle.morphology.specs.Erosion.{dilated, eroded}
 use Rattle.bench.specs.Calls.{Making, by_element}
 use Rattle.operators.specs.Closings.{closing}
-use Rattle.operators.specs.Maps.{FlatOperator}
+use Rattle.laws.specs.Maps.{FlatOperator}
 use Rattle.operators.specs.Openings.{opening}
-use Rattle.operators.specs.Reconstruction.{ReconstructionLaws}
-use Rattle.operators.specs.Sums.{Topped}
-use Rattle.operators.proofs.Cells.{cut-joined, cut-met, length-cell_by_cell}
-use Rattle.operators.proofs.Closings.{pairs_close}
-use Rattle.operators.proofs.Cuts.{cuts_alike, sheet_topped}
-use Rattle.operators.proofs.ElementLaws.{dilation_and_inner_erosion_close, erosion_and_dilation_are_pair}
-use Rattle.operators.proofs.Maps.{flat_same}
-use Rattle.operators.proofs.Openings.{pairs_open}
-use Rattle.operators.proofs.Reconstruction.{pairs_reconstruct}
-use Rattle.runs.specs.Steps.{closed_by, opened_by, recede, regrown_by, shrink, swell, the_first, the_second}
+use Rattle.laws.specs.Reconstruction.{ReconstructionLaws}
+use Rattle.laws.specs.Sums.{Topped}
+use Rattle.laws.proofs.Cells.{cut-joined, cut-met, length-cell_by_cell}
+use Rattle.laws.proofs.Closings.{pairs_close}
+use Rattle.laws.proofs.Cuts.{cuts_alike, sheet_topped}
+use Rattle.laws.proofs.ElementLaws.{dilation_and_inner_erosion_close, erosion_and_dilation_are_pair}
+use Rattle.laws.proofs.Maps.{flat_same}
+use Rattle.laws.proofs.Openings.{pairs_open}
+use Rattle.laws.proofs.Reconstruction.{pairs_reconstruct}
+use Rattle.model.specs.Steps.{closed_by, opened_by, recede, regrown_by, shrink, swell, the_first, the_second}
 
 -- sheets of any sides make sheets of these sides, and cuts make the cut
 pub record CutMaking (made : Making) : Type 0 where

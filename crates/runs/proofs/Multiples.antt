@@ -2,7 +2,7 @@
 use Rattle.std.proofs.Common.{◌≡◌, zero, suc, ℤ, pos, negsuc, ◌+ℤ◌, ◌-ℤ◌, ◌*ℤ◌, sym, ap, ◌∙◌, arith}
 use Rattle.std.proofs.lemmas.Int.{ints}
 use Rattle.std.proofs.Math.IntN.{pred_ℤ, pred_ℤ-*ℤ, suc_ℤ, suc_ℤ-*ℤ, zero-*ℤ}
-use Rattle.operators.proofs.SumsOfCuts.{swap_int_sums}
+use Rattle.laws.proofs.SumsOfCuts.{swap_int_sums}
 
 swap_differences : (u v x y : ℤ) → (u +ℤ v) -ℤ (x +ℤ y) ≡ (u -ℤ x) +ℤ (v -ℤ y)
 swap_differences u v x y = omega (arith, ints)

@@ -4,8 +4,8 @@ use Rattle.std.proofs.Common.{◌≡◌, ℕ, ◌*◌, ◌≤◌, true, List, []
 use Rattle.std.proofs.lemmas.Bool.{false≢true}
 use Rattle.bench.specs.Model.{State, Tally}
 use Rattle.bench.specs.Calls.{ended, opened, visited}
-use Rattle.operators.specs.Sums.{Topped}
-use Rattle.runs.specs.Steps.{Bench, with_sheet, with_tally}
+use Rattle.laws.specs.Sums.{Topped}
+use Rattle.model.specs.Steps.{Bench, with_sheet, with_tally}
 use Rattle.runs.specs.Theorems.{sizes_of}
 use Rattle.runs.proofs.Stored.{SheetsHeld, opened_held, stored_held}
 

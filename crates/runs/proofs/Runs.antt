@@ -6,9 +6,9 @@ use Rattle.limits.specs.Faults.{tells, unless}
 use Rattle.limits.specs.Sizes.{lawful_side, sizes_refusal}
 use Rattle.bench.specs.Model.{State, is_place}
 use Rattle.bench.specs.Calls.{opened}
-use Rattle.runs.specs.Calls.{Call, Told}
-use Rattle.runs.specs.Refusals.{refusal}
-use Rattle.runs.specs.Steps.{Bench, Opening, after, answer, leaves, opened_bench, step, told_by}
+use Rattle.model.specs.Calls.{Call, Told}
+use Rattle.model.specs.Refusals.{refusal}
+use Rattle.model.specs.Steps.{Bench, Opening, after, answer, leaves, opened_bench, step, told_by}
 use Rattle.runs.specs.Sums.{AnswerSum, BenchSum, ToldSum}
 use Rattle.runs.specs.Theorems.{OpenedAlike, cut_at, in_heights, sizes_of}
 use Rattle.runs.proofs.Accepted.{passed}

@@ -4,13 +4,13 @@ use Rattle.std.proofs.lemmas.Bool.{false≢true}
 use Rattle.morphology.specs.Cells.{cut}
 use Rattle.bench.specs.Model.{State, Tally, sheet_of}
 use Rattle.bench.specs.Calls.{Making, ended, opened, stored, visited}
-use Rattle.operators.specs.Sums.{Topped}
+use Rattle.laws.specs.Sums.{Topped}
 use Rattle.operators.specs.Tallies.{differed}
-use Rattle.operators.proofs.Sums.{list_over_none, list_over_same}
-use Rattle.operators.proofs.SumsOfCuts.{differed_over_cuts}
-use Rattle.runs.specs.Steps.{Bench, made_of, with_sheet, with_tally}
+use Rattle.laws.proofs.Sums.{list_over_none, list_over_same}
+use Rattle.laws.proofs.SumsOfCuts.{differed_over_cuts}
+use Rattle.model.specs.Steps.{Bench, made_of, with_sheet, with_tally}
 use Rattle.runs.specs.Sums.{BenchSum, TallySum}
-use Rattle.runs.specs.Tallies.{difference, tally_of}
+use Rattle.model.specs.Tallies.{difference, tally_of}
 use Rattle.runs.proofs.Makings.{CutMaking, made_topped}
 
 -- each filled place of a rack holds a sheet of its sides, and no place one that rises above the top

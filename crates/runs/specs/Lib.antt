@@ -1,6 +1,2 @@
-pub mod Calls
-pub mod Tallies
-pub mod Refusals
-pub mod Steps
 pub mod Sums
 pub mod Theorems

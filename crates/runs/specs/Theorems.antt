@@ -6,10 +6,10 @@ use Rattle.morphology.specs.Cells.{cut}
 use Rattle.morphology.specs.Sheets.{area}
 use Rattle.bench.specs.Model.{Outline, sheet_of}
 use Rattle.operators.specs.Openings.{opening}
+use Rattle.operators.specs.Restoring.{restore_refusal}
 use Rattle.operators.specs.Skeletons.{restored}
-use Rattle.runs.specs.Calls.{Call, Begin, Skeleton, Spectrum, SkeletonTold, SlipTold, SpectrumTold, with_picture}
-use Rattle.runs.specs.Refusals.{restore_refusal}
-use Rattle.runs.specs.Steps.{Opening, after, answer, opened_bench, shrink, swell}
+use Rattle.model.specs.Calls.{Call, Begin, Skeleton, Spectrum, SkeletonTold, SlipTold, SpectrumTold, with_picture}
+use Rattle.model.specs.Steps.{Opening, after, answer, opened_bench, shrink, swell}
 use Rattle.runs.specs.Sums.{AnswerSum, BenchSum}
 
 -- the sides and the number of places of a rack or a slate

@@ -1,6 +1,6 @@
-// Every run of calls on a bench, as a model: what each call refuses, leaves and tells, and what holds of all runs.
+// What holds of every run of calls on a bench.
 #![tactic(auto)]
 
-mod laws;
+mod theorems;
 
-pub use laws::{runs_of_a_kind, runs_of_every_top};
+pub use theorems::{runs_of_a_kind, runs_of_every_top};

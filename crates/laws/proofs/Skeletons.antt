@@ -1,0 +1,121 @@
+-- The laws of skeletons, from those of a pair. Assumes nothing.
+use Rattle.std.proofs.Common.{◌≡◌, ℕ, zero, suc, ◌+◌, ◌-◌, ◌*◌, ◌<◌, ◌≤◌, List, [], ◌∷◌, ◌++◌, length, take, sym, refl, ap, ◌∙◌, inl, inr, append_assoc, add-mul, one-mul, arith}
+use Rattle.std.proofs.Math.Nat.{suc-mul}
+use Rattle.std.proofs.lemmas.Bool.{cases_lt}
+use Rattle.std.proofs.lemmas.List.{append-nil, drop_at, length-append, take_at}
+use Rattle.morphology.specs.Cells.{cut}
+use Rattle.operators.specs.Maps.{times}
+use Rattle.laws.specs.Maps.{Below}
+use Rattle.operators.specs.Openings.{opening}
+use Rattle.laws.specs.Pairs.{PairLaws}
+use Rattle.operators.specs.Skeletons.{in_a_row, minus, piece_of, plus, rebuilt, skeleton, skeleton_piece}
+use Rattle.laws.specs.Skeletons.{PairsRestore}
+use Rattle.laws.specs.Sums.{ListSum, Topped}
+use Rattle.laws.proofs.Cells.{length-cell_by_cell}
+use Rattle.laws.proofs.Maps.{flat_topped}
+use Rattle.laws.proofs.Openings.{opening_flat, shrunk}
+use Rattle.laws.proofs.Sums.{list_over_append, list_over_none, list_over_same}
+use Rattle.laws.proofs.SumsOfCuts.{minus_over_cuts, sheets_are_sums_of_cuts}
+
+-- what was taken from a sheet and given back
+plus-minus : (f g : List ℕ) → length g ≡ length f → Below g f → plus g (minus f g) ≡ f
+plus-minus [] [] same below = refl
+plus-minus [] (y ∷ g) same below = absurd (omega arith)
+plus-minus (x ∷ f) [] same below = absurd (omega arith)
+plus-minus (x ∷ f) (y ∷ g) same below =
+    let first : y ≤ x = below 0 in
+    let height : y + (x - y) ≡ x = omega arith in
+    λ i. height i ∷ plus-minus f g (omega arith) (λ p. below (suc p)) i
+
+module _ (cells : ℕ) (p : ℕ → List ℕ) (sized : (n : ℕ) → length (p n) ≡ cells) where
+  length-in_a_row : (n : ℕ) → length (in_a_row p n) ≡ n * cells
+  length-in_a_row zero = omega arith
+  length-in_a_row (suc n) = length-append (in_a_row p n) (p n) ∙ (λ i. length-in_a_row n i + sized n i) ∙ sym (suc-mul n cells)
+
+  -- the list behind some pieces, and a piece
+  piece_behind : (n : ℕ) (x rest : List ℕ) → length x ≡ cells → piece_of cells (in_a_row p n ++ (x ++ rest)) n ≡ x
+  piece_behind n x rest long =
+      ap (take cells) (drop_at (in_a_row p n) (x ++ rest) (n * cells) (length-in_a_row n)) ∙ take_at x rest cells long
+
+  piece_within : (depth n : ℕ) (rest : List ℕ) → n < depth → piece_of cells (in_a_row p depth ++ rest) n ≡ p n
+  piece_within zero n rest low = absurd (omega arith)
+  piece_within (suc depth) n rest low = ap (λ xs. piece_of cells xs n) (append_assoc (in_a_row p depth) (p depth) rest) ∙ elim (cases_lt n depth) [
+    | inl within ↦ piece_within depth n (p depth ++ rest) within
+    | inr last ↦
+        let same : depth ≡ n = omega arith in
+        ap (λ d. piece_of cells (in_a_row p d ++ (p d ++ rest)) n) same ∙ piece_behind n (p n) rest (sized n)
+  ]
+
+-- rows of pieces are sums where the pieces are
+rows_over_cuts : (top : ℕ) (p : ℕ → List ℕ) (q : ℕ → ℕ → List ℕ) → ((n : ℕ) → ListSum top (p n) (λ a. q a n)) → (n : ℕ) → ListSum top (in_a_row p n) (λ a. in_a_row (q a) n)
+rows_over_cuts top p q each zero = list_over_none ◌+◌ 0 refl top
+rows_over_cuts top p q each (suc n) =
+    list_over_append ◌+◌ 0 top (in_a_row p n) (p n) (λ a. in_a_row (q a) n) (λ a. q a n) (rows_over_cuts top p q each n) (each n)
+
+module _ (cells : ℕ) (shrink swell : List ℕ → List ℕ) (laws : PairLaws cells shrink swell) (depth : ℕ) (f : List ℕ) (long : length f ≡ cells) where
+  abbrev e : ℕ → List ℕ
+  e n = times n shrink f
+
+  sized : (n : ℕ) → length (e n) ≡ cells
+  sized n = (shrunk cells shrink swell laws n).sheet f long
+
+  opened_sized : (n : ℕ) → length (opening shrink swell 1 (e n)) ≡ length (e n)
+  opened_sized n = (opening_flat cells shrink swell laws 1).sheet (e n) (sized n) ∙ sym (sized n)
+
+  piece_sized : (n : ℕ) → length (skeleton_piece shrink swell f n) ≡ cells
+  piece_sized n = length-cell_by_cell ◌-◌ (e n) (opening shrink swell 1 (e n)) (sym (opened_sized n)) ∙ sized n
+
+  abbrev pieces : List ℕ
+  pieces = skeleton shrink swell depth f
+
+  pub skeleton_long : length pieces ≡ (depth + 1) * cells
+  skeleton_long =
+      length-append (in_a_row (skeleton_piece shrink swell f) depth) (e depth)
+      ∙ (λ i. length-in_a_row cells (skeleton_piece shrink swell f) piece_sized depth i + sized depth i)
+      ∙ omega (arith, add-mul depth 1 cells, one-mul cells)
+
+  last_piece : piece_of cells pieces depth ≡ e depth
+  last_piece =
+      ap (λ xs. piece_of cells (in_a_row (skeleton_piece shrink swell f) depth ++ xs) depth) (sym (append-nil (e depth)))
+      ∙ piece_behind cells (skeleton_piece shrink swell f) piece_sized depth (e depth) [] (sized depth)
+
+  -- after so many pieces it is the sheet eroded as many times fewer
+  rebuilt_so_far : (n : ℕ) → n ≤ depth → rebuilt swell cells depth pieces n ≡ e (depth - n)
+  rebuilt_so_far zero low = last_piece ∙ ap e (omega arith)
+  rebuilt_so_far (suc n) low =
+      let k = depth - suc n in
+      let next : depth - n ≡ suc k = omega arith in
+      (λ i. plus (swell ((rebuilt_so_far n (omega arith) ∙ ap e next) i)) (piece_within cells (skeleton_piece shrink swell f) piece_sized depth k (e depth) (omega arith) i))
+      ∙ plus-minus (e k) (opening shrink swell 1 (e k)) (opened_sized k) (laws.within (e k) (sized k))
+
+  pub skeleton_rebuilds : (k : ℕ) → k ≤ depth → rebuilt swell cells depth pieces (depth - k) ≡ e k
+  skeleton_rebuilds k low = rebuilt_so_far (depth - k) (omega arith) ∙ ap e (omega arith)
+
+  pub skeleton_over_cuts : (top : ℕ) → Topped top f → ListSum top pieces (λ a. skeleton shrink swell depth (cut a f))
+  skeleton_over_cuts top t =
+      list_over_append ◌+◌ 0 top (in_a_row (skeleton_piece shrink swell f) depth) (e depth)
+      (λ a. in_a_row (skeleton_piece shrink swell (cut a f)) depth) (λ a. times depth shrink (cut a f))
+      (rows_over_cuts top (skeleton_piece shrink swell f) (λ a. skeleton_piece shrink swell (cut a f)) piece_over_cuts depth)
+      (list_over_same ◌+◌ 0 top (e depth) (λ a. cut a (e depth)) (λ a. times depth shrink (cut a f)) (λ a low. sym (e_cut a low depth))
+      (sheets_are_sums_of_cuts top (e depth) (e_topped depth)))
+    where
+      e_cut : (a : ℕ) → 1 ≤ a → (n : ℕ) → times n shrink (cut a f) ≡ cut a (e n)
+      e_cut a low n = (shrunk cells shrink swell laws n).cuts a f low long
+
+      e_topped : (n : ℕ) → Topped top (e n)
+      e_topped n = flat_topped cells (times n shrink) (shrunk cells shrink swell laws n) top f long t
+
+      piece_over_cuts : (n : ℕ) → ListSum top (skeleton_piece shrink swell f n) (λ a. skeleton_piece shrink swell (cut a f) n)
+      piece_over_cuts n =
+          let flat = opening_flat cells shrink swell laws 1 in
+          list_over_same ◌+◌ 0 top (skeleton_piece shrink swell f n) (λ a. minus (cut a (e n)) (cut a (opening shrink swell 1 (e n)))) (λ a. skeleton_piece shrink swell (cut a f) n)
+          (λ a low. (λ i. minus (sym (e_cut a low n) i) (sym (ap (opening shrink swell 1) (e_cut a low n) ∙ flat.cuts a (e n) low (sized n)) i)))
+          (minus_over_cuts top (e n) (opening shrink swell 1 (e n)) (e_topped n) (flat_topped cells (opening shrink swell 1) flat top (e n) (sized n) (e_topped n)))
+
+pub pairs_restore : PairsRestore
+pairs_restore cells shrink swell laws = record {
+  long = λ depth f long. skeleton_long cells shrink swell laws depth f long;
+  rebuilds = λ depth k f long low. skeleton_rebuilds cells shrink swell laws depth f long k low;
+  restores = λ depth k f long low. ap (times k swell) (skeleton_rebuilds cells shrink swell laws depth f long k low);
+  sums = λ top depth f long t. skeleton_over_cuts cells shrink swell laws depth f long top t;
+}

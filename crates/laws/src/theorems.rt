@@ -1,0 +1,47 @@
+// The laws, each the contract of a function that does nothing.
+ghost use Rattle.laws.specs.Closings.{DilationAndInnerErosionClose, PairsClose};
+ghost use Rattle.laws.specs.Openings.{PairsOpen};
+ghost use Rattle.laws.specs.Pairs.{ErosionAndDilationArePair};
+ghost use Rattle.laws.specs.Reconstruction.{PairsReconstruct};
+ghost use Rattle.laws.specs.Skeletons.{PairsRestore};
+ghost use Rattle.laws.specs.Spectra.{PairsHaveSpectra};
+ghost use Rattle.laws.specs.Sums.{SheetsAreSumsOfCuts};
+
+use elements::Element;
+
+/// Erosion and dilation by an element keep the laws of a pair, and so do dilation and the erosion of closings.
+pub fn element_laws(element: &Element)
+    ensures pair { ErosionAndDilationArePair element.now }
+    ensures closing { DilationAndInnerErosionClose element.now }
+{}
+
+/// Openings by any such pair never rise above the sheet and fall with the size, and a sheet is the sum of its cuts.
+#[tactic(auto, using(crate::proofs::Openings::pairs_open, crate::proofs::SumsOfCuts::sheets_are_sums_of_cuts))]
+pub fn opening_laws()
+    ensures cuts { SheetsAreSumsOfCuts }
+    ensures openings { PairsOpen }
+{}
+
+/// Closings never fall below the sheet and grow with the size.
+#[tactic(auto, using(crate::proofs::Closings::pairs_close))]
+pub fn closing_laws()
+    ensures { PairsClose }
+{}
+
+/// Reconstruction settles after the rounds that are told, and these are the greatest of those of the cuts.
+#[tactic(auto, using(crate::proofs::Reconstruction::pairs_reconstruct))]
+pub fn reconstruction_laws()
+    ensures { PairsReconstruct }
+{}
+
+/// Restoring a skeleton gives back every opening of its sheet, and skeletons are the sums of those of the cuts.
+#[tactic(auto, using(crate::proofs::Skeletons::pairs_restore))]
+pub fn skeleton_laws()
+    ensures { PairsRestore }
+{}
+
+/// No entry of a spectrum is negative, those from size 0 sum with the rest to the area, and spectra are the sums of those of the cuts.
+#[tactic(auto, using(crate::proofs::Spectra::pairs_have_spectra))]
+pub fn spectrum_laws()
+    ensures { PairsHaveSpectra }
+{}

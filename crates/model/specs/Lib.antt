@@ -1,0 +1,5 @@
+pub mod Calls
+pub mod Tallies
+pub mod Refusals
+pub mod Steps
+pub mod WorkedRuns

@@ -1,0 +1,6 @@
+// Every call on a bench as a model, in heights: what it refuses, leaves and tells, and a run of calls.
+#![tactic(auto)]
+
+mod worked;
+
+pub use worked::worked_runs;

@@ -1,9 +1,0 @@
--- The laws of an element's operators.
-use Rattle.operators.proofs.ElementLaws.{erosion_and_dilation_are_pair, dilation_and_inner_erosion_close}
-use Rattle.operators.proofs.laws.element_laws.Goals as goal
-
-pub returns-clause-pair : goal.returns-clause-pair
-returns-clause-pair c = erosion_and_dilation_are_pair c.args.element.now
-
-pub returns-clause-closing : goal.returns-clause-closing
-returns-clause-closing c = dilation_and_inner_erosion_close c.args.element.now

@@ -1,0 +1,117 @@
+-- The theorems about whole runs. Assumes nothing.
+use Rattle.std.proofs.Common.{◌≡◌, ℕ, ◌+◌, ◌-◌, ◌*◌, ◌≤◌, true, false, ◌&&◌, suc, List, [], ◌∷◌, map, length, eqb, leb, ltb, None, sym, refl, ap, ◌∙◌, subst, arith}
+use Rattle.std.specs.List.{list_any}
+use Rattle.std.specs.Prelude.{drop, sum}
+use Rattle.std.proofs.lemmas.Bool.{eq-eqb, le-leb, le-ltb}
+use Rattle.elements.specs.declared.element.Element.{Element}
+use Rattle.limits.specs.Sizes.{lawful_side, lawful_size}
+use Rattle.bench.specs.Model.{sheet_of}
+use Rattle.bench.specs.Calls.{begin_refusal}
+use Rattle.operators.specs.Maps.{times}
+use Rattle.operators.specs.Skeletons.{rebuilt, restored, skeleton}
+use Rattle.laws.specs.Skeletons.{SkeletonLaws}
+use Rattle.operators.specs.Spectra.{spectrum}
+use Rattle.laws.specs.Sums.{Topped}
+use Rattle.laws.proofs.ElementLaws.{dilation_and_inner_erosion_close, erosion_and_dilation_are_pair}
+use Rattle.laws.proofs.Maps.{flat_times, flat_topped}
+use Rattle.laws.proofs.Skeletons.{pairs_restore}
+use Rattle.laws.proofs.Spectra.{pairs_have_spectra}
+use Rattle.model.specs.Calls.{Begin, Skeleton, SkeletonTold, SlipTold, Spectrum, SpectrumTold}
+use Rattle.model.specs.Refusals.{refusal}
+use Rattle.model.specs.Steps.{Bench, Opening, after, answer, opened_bench, recede, shrink, swell, told_by}
+use Rattle.runs.specs.Theorems.{Forgetting, MaskSums, OpenedAlike, Restoring, RunLaws, SkeletonsTellSheets, SpectraTellAreas, in_heights}
+use Rattle.runs.proofs.Accepted.{begin_closed, listing_listed, none_refused, tells_ok}
+use Rattle.runs.proofs.Reached.{Reached}
+use Rattle.runs.proofs.Runs.{answers_go, as_opened_same, run_goes, run_reached, sides_lawful, start_goes}
+
+-- no cell of a sheet that keeps the top is above a number that is not below it
+none_above : (top : ℕ) (f : List ℕ) → Topped top f → top ≤ 65536 → list_any (ltb 65536) f ≡ false
+none_above top [] t low = refl
+none_above top (x ∷ f) t low =
+    let first : x ≤ top = t 0 in
+    rw (le-ltb 65536 x (omega arith)) (none_above top f (λ p. t (suc p)) low)
+
+pub skeletons_of : (e : Element) (w h : ℕ) → SkeletonLaws (w * h) (shrink e w h) (swell e w h)
+skeletons_of e w h = pairs_restore (w * h) (shrink e w h) (swell e w h) (erosion_and_dilation_are_pair e w h)
+
+module _ {X : Type 0} (height : X → ℕ) (top : ℕ) (bounded : (x : X) → height x ≤ top) where
+  mask_sums : MaskSums height top
+  mask_sums o masks alike calls next =
+      let b = after (opened_bench o) (map (in_heights height) calls) in
+      let g = run_goes height top bounded (opened_bench o) calls (opened_bench o) (λ a. opened_bench (masks a)) (start_goes top o masks alike) in
+      (g.sum, answers_go height top bounded (opened_bench o) next b _ g)
+
+  restoring : top ≤ 65536 → Restoring height
+  restoring low o calls e depth place len pieces told size within =
+      let b = after (opened_bench o) (map (in_heights height) calls) in
+      let r = run_reached height top bounded o calls in
+      let w = b.rack.outline.w in
+      let h = b.rack.outline.h in
+      let f = sheet_of b.rack place in
+      let ok = tells_ok (refusal {X = ℕ} b.rack b.slate (Skeleton e depth place len)) (told_by b (Skeleton e depth place len)) (SkeletonTold pieces) told in
+      let listed = listing_listed b.rack.outline depth place len _ ok.0 in
+      let long = r.held.sized place listed.filled in
+      let laws = skeletons_of e w h in
+      let same : skeleton (shrink e w h) (swell e w h) depth f ≡ pieces = cc (ok.1) in
+      let count = ap length (sym same) ∙ laws.long depth f long in
+      let built : rebuilt (swell e w h) (w * h) depth pieces (depth - size) ≡ times size (shrink e w h) f =
+      ap (λ xs. rebuilt (swell e w h) (w * h) depth xs (depth - size)) (sym same) ∙ laws.rebuilds depth size f long within in
+      let topped = flat_topped (w * h) (times size (shrink e w h)) (flat_times (w * h) (shrink e w h) (erosion_and_dilation_are_pair e w h).shrinks size) top f long (r.held.topped place) in
+      let sides : (lawful_side w && lawful_side h) ≡ true = subst (λ s. (lawful_side s.0 && lawful_side s.1) ≡ true) (sym r.rack_sizes)
+      (sides_lawful o place (ap (λ s. leb 1 place && leb place s.2) (sym r.rack_sizes) ∙ listed.there)) in (
+        none_refused (lawful_side w && lawful_side h) _ _ sides
+            (none_refused (eqb (w * h) (w * h) && eqb (w * h) (w * h)) _ _ (rw (eq-eqb (w * h) (w * h) refl) refl)
+            (none_refused (lawful_size depth && leb size depth) _ _ (rw (listed.lawful, le-leb size depth within) refl)
+            (none_refused (eqb (length pieces) ((depth + 1) * (w * h))) _ _ (eq-eqb _ _ count)
+            (rw (built, none_above top (times size (shrink e w h) f) topped low) refl)))),
+        ap (times size (swell e w h)) built,
+      )
+
+  skeletons_tell : top ≤ 65536 → SkeletonsTellSheets height
+  skeletons_tell low o p calls others e depth place other len pieces wide tall one two =
+      let b = after (opened_bench o) (map (in_heights height) calls) in
+      let c = after (opened_bench p) (map (in_heights height) others) in
+      sym (restoring low o calls e depth place len pieces one 0 (omega arith)).1
+      ∙ (λ i. restored (swell e (wide i) (tall i)) (wide i * tall i) depth 0 pieces)
+      ∙ (restoring low p others e depth other len pieces two 0 (omega arith)).1
+
+  spectra_tell : SpectraTellAreas height
+  spectra_tell o calls e depth place len entries told =
+      let b = after (opened_bench o) (map (in_heights height) calls) in
+      let r = run_reached height top bounded o calls in
+      let w = b.rack.outline.w in
+      let h = b.rack.outline.h in
+      let f = sheet_of b.rack place in
+      let ok = tells_ok (refusal {X = ℕ} b.rack b.slate (Spectrum e depth place len)) (told_by b (Spectrum e depth place len)) (SpectrumTold entries) told in
+      let listed = listing_listed b.rack.outline depth place len _ ok.0 in
+      let laws = pairs_have_spectra (w * h) (shrink e w h) (swell e w h) (recede e w h) (erosion_and_dilation_are_pair e w h) (dilation_and_inner_erosion_close e w h) in
+      let same : spectrum (shrink e w h) (swell e w h) (recede e w h) depth f ≡ entries = cc (ok.1) in
+      ap (λ xs. sum (drop depth xs)) (sym same) ∙ laws.total depth f (r.held.sized place listed.filled)
+
+  -- where no visit is open the bench is as it opened
+  closed_same : (o p : Opening) → OpenedAlike o p → (b c : Bench) → Reached top (opened_bench o) b → Reached top (opened_bench p) c →
+      b.rack.outline.visit ≡ None → b.slate.outline.visit ≡ None → c.rack.outline.visit ≡ None → c.slate.outline.visit ≡ None → b ≡ c
+  closed_same o p alike b c r s br bs cr cs = λ i. record {
+    rack = as_opened_same b.rack c.rack (r.rack_closed br) (s.rack_closed cr) (r.rack_sizes ∙ alike.rack ∙ sym s.rack_sizes) i;
+    slate = as_opened_same b.slate c.slate (r.slate_closed bs) (s.slate_closed cs) (r.slate_sizes ∙ alike.slate ∙ sym s.slate_sizes) i;
+  }
+
+  forgetting : Forgetting height
+  forgetting o p alike before others flat one two calls next =
+      let b = after (opened_bench o) (map (in_heights height) before) in
+      let c = after (opened_bench p) (map (in_heights height) others) in
+      let first = tells_ok (begin_refusal b.rack.outline b.slate.outline flat) (SlipTold flat) (SlipTold flat) one in
+      let second = tells_ok (begin_refusal c.rack.outline c.slate.outline flat) (SlipTold flat) (SlipTold flat) two in
+      let open_none = begin_closed b.rack.outline b.slate.outline flat first.0 in
+      let other_none = begin_closed c.rack.outline c.slate.outline flat second.0 in
+      ap (λ x. answer (after x (Begin flat ∷ map (in_heights height) calls)) (in_heights height next))
+      (closed_same o p alike b c (run_reached height top bounded o before) (run_reached height top bounded p others) open_none.0 open_none.1 other_none.0 other_none.1)
+
+  pub run_laws : top ≤ 65536 → RunLaws height top
+  run_laws low = record {
+    sums = mask_sums;
+    restoring = restoring low;
+    skeletons = skeletons_tell low;
+    spectra = spectra_tell;
+    forgetting = forgetting;
+  }

@@ -1,6 +1,0 @@
--- The laws of runs, at a kind's heights and top.
-use Rattle.runs.proofs.Theorems.{run_laws}
-use Rattle.runs.proofs.laws.runs_of_a_kind.Goals as goal
-
-pub returns : goal.returns
-returns g c = run_laws g.L.Level.height g.L.Level.top g.met.L.Level.within g.met.L.Level.bounded

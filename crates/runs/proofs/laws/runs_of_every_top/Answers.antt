@@ -1,6 +1,0 @@
--- The laws of runs, at the heights to any top.
-use Rattle.runs.proofs.Theorems.{run_laws}
-use Rattle.runs.proofs.laws.runs_of_every_top.Goals as goal
-
-pub returns : goal.returns
-returns c top low high = run_laws (λ x. x.0) top (λ x. x.1) high

@@ -6,3 +6,4 @@ pub mod Multiples
 pub mod Calls
 pub mod Runs
 pub mod RunLaws
+pub mod Coded

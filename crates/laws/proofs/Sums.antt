@@ -9,6 +9,12 @@ use Rattle.std.proofs.lemmas.List.{get_or_past, length-map}
 use Rattle.laws.proofs.Cells.{get_or-shorter, length-shorter}
 use Rattle.laws.proofs.Cuts.{cut_height, topped_rest}
 
+-- a list whose numbers each become another, at each place
+pub get_or-kept : {X : Type 0} (keep : X → X) (start : X) → keep start ≡ start → (ys : List X) (k : ℕ) → get_or (map keep ys) k start ≡ keep (get_or ys k start)
+get_or-kept keep start idle [] k = sym idle
+get_or-kept keep start idle (y ∷ ys) zero = refl
+get_or-kept keep start idle (y ∷ ys) (suc k) = get_or-kept keep start idle ys k
+
 module _ {X : Type 0} (op : X → X → X) (start : X) where
   -- only the heights from 1 on matter
   pub over_same : (top : ℕ) (f g : ℕ → X) → ((a : ℕ) → 1 ≤ a → f a ≡ g a) → over_heights op start top f ≡ over_heights op start top g
@@ -101,11 +107,6 @@ module _ {X : Type 0} (op : X → X → X) (start : X) where
       → ListOver op start top xs f → ListOver op start top (map keep xs) (λ a. map keep (f a))
   list_over_kept keep idle kept top xs f s = record {
     as_long = λ a low. length-map (f a) keep ∙ s.as_long a low ∙ sym (length-map xs keep);
-    number = λ k. kept_at xs k ∙ ap keep (s.number k) ∙ over_kept keep idle kept top (λ a. get_or (f a) k start)
-        ∙ over_same top _ _ (λ a low. sym (kept_at (f a) k));
+    number = λ k. get_or-kept keep start idle xs k ∙ ap keep (s.number k) ∙ over_kept keep idle kept top (λ a. get_or (f a) k start)
+        ∙ over_same top _ _ (λ a low. sym (get_or-kept keep start idle (f a) k));
   }
-    where
-      kept_at : (ys : List X) (k : ℕ) → get_or (map keep ys) k start ≡ keep (get_or ys k start)
-      kept_at [] k = sym idle
-      kept_at (y ∷ ys) zero = refl
-      kept_at (y ∷ ys) (suc k) = kept_at ys k

@@ -1,6 +1,6 @@
 -- What holds where a call is accepted. Assumes nothing.
-use Rattle.std.proofs.Common.{◌≡◌, ℕ, Bool, true, false, not, ◌&&◌, ◌||◌, leb, is_some, Some, None, Option, Ok, ℤ, sym, refl, ap, arith}
-use Rattle.std.proofs.lemmas.Bool.{and_parts, false≢true}
+use Rattle.std.proofs.Common.{◌≤◌, ◌≡◌, ℕ, Bool, true, false, not, ◌&&◌, ◌||◌, leb, is_some, Some, None, Option, Ok, ℤ, sym, refl, ap, arith}
+use Rattle.std.proofs.lemmas.Bool.{leb-true, and_parts, false≢true}
 use Rattle.limits.specs.declared.fault.Fault.{Fault}
 use Rattle.limits.specs.declared.fault.Fault.TheVariants.{EmptySheet, SheetPlace, Unequal, VisitOpen}
 use Rattle.std.specs.Prelude.{◌==◌}
@@ -60,18 +60,23 @@ difference_sources rack slate one other to h =
     let both = and_parts _ _ filled.0 in
     (record { visit = visit.0; one_filled = both.0; other_filled = both.1 }, open_alike rack.visit slate.visit (and_parts _ _ equal.0).1 visit.0)
 
-pub add_visit : (o : Outline) (weight one other to : ℕ) → add_refusal o weight one other to ≡ None → is_some o.visit ≡ true
-add_visit o weight one other to h =
+-- a tally is made on an open slate, and is not too heavy
+pub add_light : (o : Outline) (weight one other to : ℕ) → add_refusal o weight one other to ≡ None → (is_some o.visit ≡ true) × (weight ≤ 1000)
+add_light o weight one other to h =
     let places = passed (is_place o.places one && is_place o.places other && is_place o.places to) _ _ h in
     let visit = passed (is_some o.visit) _ _ places.1 in
-    visit.0
+    let filled = passed (o.filled one && o.filled other) _ _ visit.1 in
+    let light = passed (leb weight 1000) _ _ filled.1 in
+    (visit.0, leb-true weight 1000 light.0)
 
-pub scale_visit : (o : Outline) (weight : ℕ) (factor : ℤ) (from to : ℕ) → scale_refusal o weight factor from to ≡ None → is_some o.visit ≡ true
-scale_visit o weight factor from to h =
+pub scale_light : (o : Outline) (weight : ℕ) (factor : ℤ) (from to : ℕ) → scale_refusal o weight factor from to ≡ None → (is_some o.visit ≡ true) × (weight ≤ 1000)
+scale_light o weight factor from to h =
     let places = passed (is_place o.places from && is_place o.places to) _ _ h in
     let lawful = passed (lawful_factor factor) _ _ places.1 in
     let visit = passed (is_some o.visit) _ _ lawful.1 in
-    visit.0
+    let filled = passed (o.filled from) _ _ visit.1 in
+    let light = passed (leb weight 1000) _ _ filled.1 in
+    (visit.0, leb-true weight 1000 light.0)
 
 -- a list is told of a place that is filled, to a lawful depth
 pub record Listed (o : Outline) (depth place : ℕ) : Type 0 where

@@ -29,12 +29,13 @@ use Rattle.model.specs.Refusals.{add_refusal, difference_refusal, refusal, scale
 use Rattle.model.specs.Steps.{Bench, closed_by, leaves, made_of, opened_by, recede, regrown_by, shrink, swell, the_first, the_second, told_by, with_sheet, with_tally}
 use Rattle.runs.specs.Sums.{BenchSum, TallySum, ToldSum}
 use Rattle.model.specs.Tallies.{difference, multiple, sum_of_tallies, tally_of}
-use Rattle.runs.specs.Theorems.{cut_at, in_heights}
-use Rattle.runs.proofs.Accepted.{Sources, add_visit, difference_sources, listing_listed, make_sources, scale_visit, sized_sources}
+use Rattle.runs.specs.Theorems.{WithinWeight, cut_at, in_heights}
+use Rattle.runs.proofs.Accepted.{Sources, add_light, difference_sources, listing_listed, make_sources, scale_light, sized_sources}
 use Rattle.runs.proofs.Makings.{CutMaking, closing_making, element_making, first_making, join_making, meet_making, opening_making, regrow_laws, regrow_making, second_making}
 use Rattle.runs.proofs.Multiples.{multiple_of_sum}
 use Rattle.runs.proofs.Reached.{Reached, begin_reached, end_reached, picture_topped, sheet_reached, tally_reached}
 use Rattle.runs.proofs.Stored.{begin_sum, difference_sum, end_sum, made_cut, made_of_topped, made_sized, sheet_sum, tally_sum}
+use Rattle.runs.proofs.Weights.{difference_within, multiple_within, sum_within}
 
 -- a bench that a run reaches, and those that the same run reaches from the masks
 pub record Goes (top : ℕ) (start b : Bench) (bs : ℕ → Bench) : Type 0 where
@@ -88,14 +89,16 @@ module _ {X : Type 0} (height : X → ℕ) (top : ℕ) (bounded : (x : X) → he
         (made_sized top b bs g.sum g.reached.held one other src.one_filled src.other_filled made M) (made_of_topped top b bs g.sum g.reached.held one other src.one_filled src.other_filled made M);
   }
 
-  tally_goes : (to : ℕ) (t : Tally) (ts : ℕ → Tally) → TallySum top t ts → is_some b.slate.outline.visit ≡ true → Goes top start (with_tally b to t) (λ a. with_tally (bs a) to (ts a))
-  tally_goes to t ts sums visit = record { sum = tally_sum top b bs g.sum to t ts sums; reached = tally_reached top start b g.reached to t visit }
+  tally_goes : (to : ℕ) (t : Tally) (ts : ℕ → Tally) → TallySum top t ts → is_some b.slate.outline.visit ≡ true → WithinWeight top t → Goes top start (with_tally b to t) (λ a. with_tally (bs a) to (ts a))
+  tally_goes to t ts sums visit within = record { sum = tally_sum top b bs g.sum to t ts sums; reached = tally_reached top start b g.reached to t visit within }
 
   difference_goes : (more less : Making) → CutMaking more → CutMaking less → (one other to : ℕ) → Sources b.rack.outline one other × (is_some b.slate.outline.visit ≡ true)
       → Goes top start (with_tally b to (difference (made_of more b one other) (made_of less b one other))) (λ a. with_tally (bs a) to (difference (made_of more (bs a) one other) (made_of less (bs a) one other)))
   difference_goes more less M L one other to (src, visit) =
       tally_goes to (difference (made_of more b one other) (made_of less b one other)) (λ a. difference (made_of more (bs a) one other) (made_of less (bs a) one other))
       (difference_sum top b bs g.sum g.reached.held one other src.one_filled src.other_filled more less M L) visit
+      (difference_within top (made_of more b one other) (made_of less b one other)
+      (made_of_topped top b bs g.sum g.reached.held one other src.one_filled src.other_filled more M) (made_of_topped top b bs g.sum g.reached.held one other src.one_filled src.other_filled less L))
 
   -- what every accepted call leaves
   pub leaves_goes : (c : Call X) → refusal b.rack b.slate (in_heights height c) ≡ None → Goes top start (leaves b (in_heights height c)) (λ a. leaves (bs a) (cut_at height a c))
@@ -119,13 +122,15 @@ module _ {X : Type 0} (height : X → ℕ) (top : ℕ) (bounded : (x : X) → he
   leaves_goes (Valley e from to) h = difference_goes (closed_by e 1) the_first (closing_making e 1) first_making from from to (difference_sources b.rack.outline b.slate.outline from from to h)
   leaves_goes (Differ one other to) h = difference_goes the_first the_second first_making second_making one other to (difference_sources b.rack.outline b.slate.outline one other to h)
   leaves_goes (Add one other to) h =
+      let light = add_light b.slate.outline (sum_of_tallies (tally_of b.slate one) (tally_of b.slate other)).weight one other to h in
       tally_goes to (sum_of_tallies (tally_of b.slate one) (tally_of b.slate other)) (λ a. sum_of_tallies (tally_of (bs a).slate one) (tally_of (bs a).slate other))
       (sum_of_tallies_sum top (tally_of b.slate one) (tally_of b.slate other) (λ a. tally_of (bs a).slate one) (λ a. tally_of (bs a).slate other) (g.sum.tallies one) (g.sum.tallies other))
-      (add_visit b.slate.outline (sum_of_tallies (tally_of b.slate one) (tally_of b.slate other)).weight one other to h)
+      light.0 (sum_within top (tally_of b.slate one) (tally_of b.slate other) (g.reached.tallies one) (g.reached.tallies other) light.1)
   leaves_goes (Scale factor from to) h =
+      let light = scale_light b.slate.outline (multiple factor (tally_of b.slate from)).weight factor from to h in
       tally_goes to (multiple factor (tally_of b.slate from)) (λ a. multiple factor (tally_of (bs a).slate from))
       (multiple_sum top factor (tally_of b.slate from) (λ a. tally_of (bs a).slate from) (g.sum.tallies from))
-      (scale_visit b.slate.outline (multiple factor (tally_of b.slate from)).weight factor from to h)
+      light.0 (multiple_within top factor (tally_of b.slate from) (g.reached.tallies from) light.1)
   leaves_goes (Area place) h = g
   leaves_goes (Span place) h = g
   leaves_goes (Spectrum e depth place len) h = g

@@ -1,6 +1,7 @@
 pub mod Makings
 pub mod Stored
 pub mod Accepted
+pub mod Weights
 pub mod Reached
 pub mod Multiples
 pub mod Calls

@@ -1,12 +1,13 @@
--- What holds of every bench that a run reaches: the sizes it opened with, sheets of its sides and below the top, and, where no visit is
--- open, the state that it opened with. Assumes nothing.
-use Rattle.std.proofs.Common.{◌≡◌, ℕ, ◌*◌, ◌≤◌, true, List, [], ◌∷◌, zero, suc, map, length, is_some, Some, None, Option, sym, refl, ap, arith}
+-- What holds of every bench that a run reaches: the sizes it opened with, sheets of its sides and below the top, tallies within their
+-- weights, and, where no visit is open, the state that it opened with. Assumes nothing.
+use Rattle.std.proofs.Common.{Bool, false, cond, eqb, unwrap_or, ◌≡◌, ℕ, ◌*◌, ◌≤◌, true, List, [], ◌∷◌, zero, suc, map, length, is_some, Some, None, Option, sym, refl, ap, arith}
 use Rattle.std.proofs.lemmas.Bool.{false≢true}
 use Rattle.bench.specs.Model.{State, Tally}
 use Rattle.bench.specs.Calls.{ended, opened, visited}
 use Rattle.laws.specs.Sums.{Topped}
 use Rattle.model.specs.Steps.{Bench, with_sheet, with_tally}
-use Rattle.runs.specs.Theorems.{sizes_of}
+use Rattle.model.specs.Tallies.{tally_of}
+use Rattle.runs.specs.Theorems.{WithinWeight, sizes_of}
 use Rattle.runs.proofs.Stored.{SheetsHeld, opened_held, stored_held}
 
 -- a rack or a slate is as it opened
@@ -19,6 +20,11 @@ pub record Reached (top : ℕ) (start b : Bench) : Type 0 where
   pub rack_closed : b.rack.outline.visit ≡ None → AsOpened b.rack
   pub slate_closed : b.slate.outline.visit ≡ None → AsOpened b.slate
   pub held : SheetsHeld top b.rack
+  pub tallies : (k : ℕ) → WithinWeight top (tally_of b.slate k)
+
+-- an empty place has a tally of no cells
+pub none_within : (top : ℕ) → WithinWeight top (record { cells = []; weight = 0 })
+none_within top = record { weight = omega arith; cells = λ k. omega arith }
 
 closed_open : {T : Type 0} (visit : Option ℕ) → is_some visit ≡ true → visit ≡ None → T
 closed_open None some closed = absurd (false≢true some)
@@ -32,16 +38,22 @@ module _ (top : ℕ) (start b : Bench) (r : Reached top start b) where
     rack_closed = λ closed. closed_open b.rack.outline.visit visit closed;
     slate_closed = r.slate_closed;
     held = stored_held top b.rack k f r.held long t;
+    tallies = r.tallies;
   }
 
-  pub tally_reached : (k : ℕ) (t : Tally) → is_some b.slate.outline.visit ≡ true → Reached top start (with_tally b k t)
-  tally_reached k t visit = record {
+  pub tally_reached : (k : ℕ) (t : Tally) → is_some b.slate.outline.visit ≡ true → WithinWeight top t → Reached top start (with_tally b k t)
+  tally_reached k t visit within = record {
     rack_sizes = r.rack_sizes;
     slate_sizes = r.slate_sizes;
     rack_closed = r.rack_closed;
     slate_closed = λ closed. closed_open b.slate.outline.visit visit closed;
     held = r.held;
+    tallies = λ j. at (eqb j k) j;
   }
+    where
+      at : (here : Bool) (j : ℕ) → WithinWeight top (unwrap_or (cond here (Some t) (b.slate.content j)) (record { cells = []; weight = 0 }))
+      at true j = within
+      at false j = r.tallies j
 
   pub begin_reached : (flat : ℕ) → Reached top start (record { rack = visited b.rack flat; slate = visited b.slate flat })
   begin_reached flat = record {
@@ -50,6 +62,7 @@ module _ (top : ℕ) (start b : Bench) (r : Reached top start b) where
     rack_closed = λ closed. closed_open (Some flat) refl closed;
     slate_closed = λ closed. closed_open (Some flat) refl closed;
     held = record { sized = r.held.sized; topped = r.held.topped };
+    tallies = r.tallies;
   }
 
   pub end_reached : Reached top start (record { rack = ended b.rack; slate = ended b.slate })
@@ -59,6 +72,7 @@ module _ (top : ℕ) (start b : Bench) (r : Reached top start b) where
     rack_closed = λ closed. refl;
     slate_closed = λ closed. refl;
     held = opened_held top b.rack.outline.w b.rack.outline.h b.rack.outline.places;
+    tallies = λ k. none_within top;
   }
 
 -- the heights of a picture of levels below the top

@@ -113,5 +113,6 @@ module _ {X : Type 0} (height : X → ℕ) (top : ℕ) (bounded : (x : X) → he
     restoring = restoring low;
     skeletons = skeletons_tell low;
     spectra = spectra_tell;
+    weights = λ o calls place. (run_reached height top bounded o calls).tallies place;
     forgetting = forgetting;
   }

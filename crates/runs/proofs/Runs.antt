@@ -9,11 +9,12 @@ use Rattle.bench.specs.Calls.{opened}
 use Rattle.model.specs.Calls.{Call, Told}
 use Rattle.model.specs.Refusals.{refusal}
 use Rattle.model.specs.Steps.{Bench, Opening, after, answer, leaves, opened_bench, step, told_by}
+use Rattle.model.specs.Tallies.{tally_of}
 use Rattle.runs.specs.Sums.{AnswerSum, BenchSum, ToldSum}
-use Rattle.runs.specs.Theorems.{OpenedAlike, cut_at, in_heights, sizes_of}
+use Rattle.runs.specs.Theorems.{OpenedAlike, WithinWeight, cut_at, in_heights, sizes_of}
 use Rattle.runs.proofs.Accepted.{passed}
 use Rattle.runs.proofs.Calls.{Goes, leaves_goes, refused_alike, told_sum}
-use Rattle.runs.proofs.Reached.{AsOpened, Reached}
+use Rattle.runs.proofs.Reached.{AsOpened, Reached, none_within}
 use Rattle.runs.proofs.Stored.{SheetsHeld, bench_sum_same, fresh_sum, opened_held}
 
 -- what holds where a call is accepted holds of its step and its answer, where the masks refuse alike
@@ -77,6 +78,7 @@ start_goes top o masks alike = record {
     rack_closed = λ closed. rack_as_opened o;
     slate_closed = λ closed. slate_as_opened o;
     held = subst (SheetsHeld top) (sym (rack_as_opened o)) (opened_held top _ _ _);
+    tallies = λ k. subst (λ s. WithinWeight top (tally_of s k)) (sym (slate_as_opened o)) (none_within top);
   };
 }
 

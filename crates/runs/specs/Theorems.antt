@@ -1,15 +1,16 @@
 -- What holds of every run of calls on a bench of any level kind. Of a kind only the height of each level and its top are used.
 -- Assumes nothing.
-use Rattle.std.specs.Prelude.{◌≡◌, ℕ, ◌*◌, ◌≤◌, List, ◌∷◌, map, drop, sum, None, Ok}
+use Rattle.std.specs.Prelude.{◌≡◌, ℕ, ◌*◌, ◌≤◌, List, ◌∷◌, map, drop, sum, None, Ok, pos, slice_index_or, unsigned_abs}
 use Rattle.elements.specs.declared.element.Element.{Element}
 use Rattle.morphology.specs.Cells.{cut}
 use Rattle.morphology.specs.Sheets.{area}
-use Rattle.bench.specs.Model.{Outline, sheet_of}
+use Rattle.bench.specs.Model.{Outline, Tally, sheet_of}
 use Rattle.operators.specs.Openings.{opening}
 use Rattle.operators.specs.Restoring.{restore_refusal}
 use Rattle.operators.specs.Skeletons.{restored}
 use Rattle.model.specs.Calls.{Call, Begin, Skeleton, Spectrum, SkeletonTold, SlipTold, SpectrumTold, with_picture}
 use Rattle.model.specs.Steps.{Opening, after, answer, opened_bench, shrink, swell}
+use Rattle.model.specs.Tallies.{tally_of}
 use Rattle.runs.specs.Sums.{AnswerSum, BenchSum}
 
 -- the sides and the number of places of a rack or a slate
@@ -66,6 +67,15 @@ SpectraTellAreas {X} height = (o : Opening) (calls : List (Call X)) (e : Element
     let b = after (opened_bench o) (map (in_heights height) calls) in
     answer b (Spectrum e depth place len) ≡ Ok (SpectrumTold entries) → sum (drop depth entries) ≡ area (sheet_of b.rack place)
 
+-- A tally weighs at most 1,000, and none of its cells exceeds weight × top in size.
+pub record WithinWeight (top : ℕ) (t : Tally) : Type 0 where
+  pub weight : t.weight ≤ 1000
+  pub cells : (k : ℕ) → unsigned_abs (slice_index_or t.cells k (pos 0)) ≤ t.weight * top
+
+abbrev pub TalliesWithinWeights : {X : Type 0} → (X → ℕ) → ℕ → Type 0
+TalliesWithinWeights {X} height top = (o : Opening) (calls : List (Call X)) (place : ℕ) →
+    WithinWeight top (tally_of (after (opened_bench o) (map (in_heights height) calls)).slate place)
+
 -- Forgetting. On two benches opened alike, whatever was called before on each, a begin that both accept makes all later calls
 -- get the same answers.
 abbrev pub Forgetting : {X : Type 0} → (X → ℕ) → Type 0
@@ -81,4 +91,5 @@ pub record RunLaws {X : Type 0} (height : X → ℕ) (top : ℕ) : Type 0 where
   pub restoring : Restoring height
   pub skeletons : SkeletonsTellSheets height
   pub spectra : SpectraTellAreas height
+  pub weights : TalliesWithinWeights height top
   pub forgetting : Forgetting height

@@ -4,5 +4,4 @@ ghost use Rattle.operators.specs.Figures.{FiguresAreRight};
 /// The definitions give the worked figures.
 pub fn worked_figures()
     ensures { FiguresAreRight }
-{
-}
+{}

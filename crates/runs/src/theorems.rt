@@ -14,8 +14,7 @@ pub fn runs_of_a_kind<L: Level>()
 #[tactic(auto, using(crate::proofs::Coded::coded_calls_are_steps))]
 pub fn coded_calls()
     ensures { CodedCallsAreSteps }
-{
-}
+{}
 
 /// What holds of every run of calls, for every top from 1 to 65,536.
 pub fn runs_of_every_top()

@@ -16,3 +16,11 @@ returns-in_ok-erode-in-Erode-clause-steps c =
 pub returns-in_ok-dilate-in-Dilate-clause-steps : goal.returns-in_ok-dilate-in-Dilate-clause-steps
 returns-in_ok-dilate-in-Dilate-clause-steps c =
     operation_leaves Dilation c.args.self.now c.args.command _ _ _ _ c.in-Dilate.is c.from-in-Dilate.ensures c.from-in-Dilate-2.ensures _ c.dilate.ensures.steps
+
+pub returns-in_err-erode-in-Erode-clause-steps : goal.returns-in_err-erode-in-Erode-clause-steps
+returns-in_err-erode-in-Erode-clause-steps c =
+    operation_leaves Erosion c.args.self.now c.args.command _ _ _ _ c.in-Erode.is c.from-in-Erode.ensures c.from-in-Erode-2.ensures _ c.erode.ensures.steps
+
+pub returns-in_err-dilate-in-Dilate-clause-steps : goal.returns-in_err-dilate-in-Dilate-clause-steps
+returns-in_err-dilate-in-Dilate-clause-steps c =
+    operation_leaves Dilation c.args.self.now c.args.command _ _ _ _ c.in-Dilate.is c.from-in-Dilate.ensures c.from-in-Dilate-2.ensures _ c.dilate.ensures.steps

@@ -6,7 +6,7 @@ use Rattle.std.proofs.lemmas.List.Sums.{sum_by-cons}
 use Rattle.morphology.specs.Cells.{cell_by_cell, cut, joined, met}
 use Rattle.morphology.specs.Sheets.{area}
 use Rattle.laws.specs.Maps.{Below}
-use Rattle.laws.specs.Sums.{Topped}
+use Rattle.laws.specs.Sums.{HeightsAtMost}
 use Rattle.laws.proofs.Cuts.{cut_height, get_or-cut}
 
 -- two lists of one length taken together: as long, and at each place what the operation makes of the two cells there
@@ -51,7 +51,7 @@ pub same_from_below : (f g : List ℕ) → length f ≡ length g → Below f g �
 same_from_below f g same up down = same_number_lists f g same (λ p h. omega (arith, up p, down p))
 
 -- a sheet with no height above the top is nowhere above another if none of its cuts is above the other's
-pub below_from_cuts : (top : ℕ) (f g : List ℕ) → Topped top f → ((a : ℕ) → 1 ≤ a → a ≤ top → Below (cut a f) (cut a g)) → Below f g
+pub below_from_cuts : (top : ℕ) (f g : List ℕ) → HeightsAtMost top f → ((a : ℕ) → 1 ≤ a → a ≤ top → Below (cut a f) (cut a g)) → Below f g
 below_from_cuts top f g topped cuts p = at_height (get_or f p 0) (get_or g p 0) (topped p) (λ a above within. rw (sym (get_or-cut a f p above), sym (get_or-cut a g p above)) (cuts a above within p))
   where
     at_height : (x y : ℕ) → x ≤ top → ((a : ℕ) → 1 ≤ a → a ≤ top → cut_height a x ≤ cut_height a y) → x ≤ y

@@ -2,7 +2,7 @@
 use Rattle.std.proofs.Common.{List, [], ap, arith, cond, get_or, leb, length, refl, replicate, suc, sym, zero, ℕ, ◌+◌, ◌<◌, ◌∙◌, ◌∷◌, ◌≡◌, ◌≤◌}
 use Rattle.std.proofs.lemmas.Bool.Decides.{nat_tests}
 use Rattle.morphology.specs.Cells.{cut}
-use Rattle.laws.specs.Sums.{Topped}
+use Rattle.laws.specs.Sums.{HeightsAtMost}
 
 -- a height cut at a
 abbrev pub cut_height : ℕ → ℕ → ℕ
@@ -19,11 +19,11 @@ get_or-cut a (x ∷ f) zero low = refl
 get_or-cut a (x ∷ f) (suc p) low = get_or-cut a f p low
 
 -- a sheet without its first cell keeps its top
-pub topped_rest : (top x : ℕ) (f : List ℕ) → Topped top (x ∷ f) → Topped top f
+pub topped_rest : (top x : ℕ) (f : List ℕ) → HeightsAtMost top (x ∷ f) → HeightsAtMost top f
 topped_rest top x f t p = t (suc p)
 
 -- cut above its top, a sheet is all lowest
-pub cut_above : (top a : ℕ) (f : List ℕ) → Topped top f → top < a → cut a f ≡ replicate (length f) 0
+pub cut_above : (top a : ℕ) (f : List ℕ) → HeightsAtMost top f → top < a → cut a f ≡ replicate (length f) 0
 cut_above top a [] t high = refl
 cut_above top a (x ∷ f) t high =
     let below : x ≤ top = t 0 in
@@ -34,9 +34,9 @@ cut_above top a (x ∷ f) t high =
 pub height_topped : (top x : ℕ) → ((j : ℕ) → cut_height (suc top) x ≡ cut_height (suc top + j) x) → x ≤ top
 height_topped top x alike = let same = alike x in grind (arith, nat_tests)
 
-pub sheet_topped : (top : ℕ) (f : List ℕ) → ((j : ℕ) → cut (suc top) f ≡ cut (suc top + j) f) → Topped top f
+pub sheet_topped : (top : ℕ) (f : List ℕ) → ((j : ℕ) → cut (suc top) f ≡ cut (suc top + j) f) → HeightsAtMost top f
 sheet_topped top f alike p = height_topped top (get_or f p 0) (λ j.
     sym (get_or-cut (suc top) f p (omega arith)) ∙ ap (λ g. get_or g p 0) (alike j) ∙ get_or-cut (suc top + j) f p (omega arith))
 
-pub cuts_alike : (top : ℕ) (f : List ℕ) → Topped top f → (j : ℕ) → cut (suc top) f ≡ cut (suc top + j) f
+pub cuts_alike : (top : ℕ) (f : List ℕ) → HeightsAtMost top f → (j : ℕ) → cut (suc top) f ≡ cut (suc top + j) f
 cuts_alike top f t j = cut_above top (suc top) f t (omega arith) ∙ sym (cut_above top (suc top + j) f t (omega arith))

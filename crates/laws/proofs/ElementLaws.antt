@@ -14,8 +14,8 @@ use Rattle.morphology.specs.Erosion.{eroded, dilated, erosion_at}
 use Rattle.morphology.specs.Sheets.{height_at, by_cells, at_place}
 use Rattle.morphology.specs.declared.operation.Operation.{Operation}
 use Rattle.morphology.specs.declared.operation.Operation.TheVariants.{Erosion, Dilation}
-use Rattle.operators.specs.Closings.{inner_eroded, on_sheet}
-use Rattle.laws.specs.Closings.{DilationAndInnerErosionClose, ClosingPairLaws}
+use Rattle.operators.specs.Closings.{eroded_inside, on_sheet}
+use Rattle.laws.specs.Closings.{DilationAndErosionInsideClose, ClosingPairLaws}
 use Rattle.laws.specs.Maps.{FlatOperator}
 use Rattle.laws.specs.Pairs.{ErosionAndDilationArePair, PairLaws}
 use Rattle.laws.proofs.Cuts.{cut_height}
@@ -90,10 +90,10 @@ module _ (w h : ℕ) (os : List (ℤ × ℤ)) where
           omega (arith, below p, cell_at w h (erosion_at w h os g) p within, height_off w h _ _ off g)))));
     }
 
-    closing_pair_laws : ClosingPairLaws (w * h) (dilated w h os) (inner_eroded w h os)
+    closing_pair_laws : ClosingPairLaws (w * h) (dilated w h os) (eroded_inside w h os)
     closing_pair_laws = record {
       swells = pair_laws.swells;
-      recedes = extremes_flat Erosion w h (λ m o. pos m +ℤ o.0) (λ n o. pos n +ℤ o.1) (λ m n. filter (λ o. on_sheet w h (pos m +ℤ o.0) (pos n +ℤ o.1)) os);
+      shrinks = extremes_flat Erosion w h (λ m o. pos m +ℤ o.0) (λ n o. pos n +ℤ o.1) (λ m n. filter (λ o. on_sheet w h (pos m +ℤ o.0) (pos n +ℤ o.1)) os);
       above = λ f long. below_on_sheet (w * h) _ _ long (λ p within.
           let stays = λ (o : ℤ × ℤ). on_sheet w h (pos (p % w) +ℤ o.0) (pos (p / w) +ℤ o.1) in
           let kept = member_filter stays os (pos 0, pos 0) centre (on_at w h p _ _ (leads_here p within).1) in
@@ -106,5 +106,5 @@ module _ (w h : ℕ) (os : List (ℤ × ℤ)) where
 pub erosion_and_dilation_are_pair : (e : Element) → ErosionAndDilationArePair e
 erosion_and_dilation_are_pair e w h = pair_laws w h (offsets e) (offsets_law e).centre
 
-pub dilation_and_inner_erosion_close : (e : Element) → DilationAndInnerErosionClose e
-dilation_and_inner_erosion_close e w h = closing_pair_laws w h (offsets e) (offsets_law e).centre
+pub dilation_and_erosion_inside_close : (e : Element) → DilationAndErosionInsideClose e
+dilation_and_erosion_inside_close e w h = closing_pair_laws w h (offsets e) (offsets_law e).centre

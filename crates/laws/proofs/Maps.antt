@@ -2,7 +2,7 @@
 use Rattle.std.proofs.Common.{◌≡◌, ℕ, zero, suc, ◌+◌, ◌≤◌, List, length, get_or, sym, refl, ap, ◌∙◌, arith}
 use Rattle.operators.specs.Maps.{times}
 use Rattle.laws.specs.Maps.{Below, FlatOperator}
-use Rattle.laws.specs.Sums.{Topped}
+use Rattle.laws.specs.Sums.{HeightsAtMost}
 use Rattle.laws.proofs.Cuts.{cuts_alike, sheet_topped}
 
 pub below_same : (f : List ℕ) → Below f f
@@ -39,6 +39,6 @@ module _ (cells : ℕ) where
   flat_times map F (suc k) = flat_after (times k map) map (flat_times map F k) F
 
   -- a flat operator keeps the top, since above it all cuts are alike
-  pub flat_topped : (map : List ℕ → List ℕ) → FlatOperator cells map → (top : ℕ) (f : List ℕ) → length f ≡ cells → Topped top f → Topped top (map f)
+  pub flat_topped : (map : List ℕ → List ℕ) → FlatOperator cells map → (top : ℕ) (f : List ℕ) → length f ≡ cells → HeightsAtMost top f → HeightsAtMost top (map f)
   flat_topped map F top f long t = sheet_topped top (map f) (λ j.
       sym (F.cuts (suc top) f (omega arith) long) ∙ ap map (cuts_alike top f t j) ∙ F.cuts (suc top + j) f (omega arith) long)

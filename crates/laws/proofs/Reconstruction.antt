@@ -6,7 +6,7 @@ use Rattle.morphology.specs.Cells.{cut, met}
 use Rattle.morphology.specs.Sheets.{area}
 use Rattle.operators.specs.Maps.{times}
 use Rattle.laws.specs.Maps.{Below, FlatOperator}
-use Rattle.laws.specs.Sums.{Topped, greatest_to}
+use Rattle.laws.specs.Sums.{HeightsAtMost, greatest_to}
 use Rattle.operators.specs.Reconstruction.{round, rounds, reconstructed}
 use Rattle.laws.specs.Reconstruction.{PairsReconstruct, ReconstructionLaws}
 use Rattle.laws.proofs.Cells.{length-cell_by_cell, get_or-cell_by_cell, cut-met, same_from_below, below_from_cuts, area_order, same_from_area}
@@ -90,7 +90,7 @@ module _ (cells : ℕ) (swell : List ℕ → List ℕ) (flat : FlatOperator cell
           cut_after t ∙ settled_from (round swell (cut a g)) (met (cut a f) (cut a g)) (rounds swell (cut a f) (cut a g)) t enough settled
 
     -- rounds that are enough for each cut are enough
-    enough_for_cuts : (top t : ℕ) → Topped top g → ((a : ℕ) → 1 ≤ a → a ≤ top → rounds swell (cut a f) (cut a g) ≤ t) → Settled (round swell g) (met f g) t
+    enough_for_cuts : (top t : ℕ) → HeightsAtMost top g → ((a : ℕ) → 1 ≤ a → a ≤ top → rounds swell (cut a f) (cut a g) ≤ t) → Settled (round swell g) (met f g) t
     enough_for_cuts top t topped enough =
         let now = after_under g upper f t marker in
         let next = after_under g upper f (suc t) marker in
@@ -99,7 +99,7 @@ module _ (cells : ℕ) (swell : List ℕ → List ℕ) (flat : FlatOperator cell
         sym (same_from_below (after swell f g t) (after swell f g (suc t)) (now.sheet ∙ sym next.sheet) (round_above g upper (after swell f g t) now) back)
 
     -- so the rounds are the greatest of those of the cuts
-    rounds_greatest : (top : ℕ) → Topped top g → rounds swell f g ≡ greatest_to top (λ a. rounds swell (cut a f) (cut a g))
+    rounds_greatest : (top : ℕ) → HeightsAtMost top g → rounds swell f g ≡ greatest_to top (λ a. rounds swell (cut a f) (cut a g))
     rounds_greatest top topped =
         let each = λ (a : ℕ). rounds swell (cut a f) (cut a g) in
         omega (

@@ -10,11 +10,11 @@ use Rattle.operators.specs.Openings.{opening}
 use Rattle.laws.specs.Pairs.{PairLaws}
 use Rattle.operators.specs.Skeletons.{in_a_row, minus, piece_of, plus, rebuilt, skeleton, skeleton_piece}
 use Rattle.laws.specs.Skeletons.{PairsRestore}
-use Rattle.laws.specs.Sums.{ListSum, Topped}
+use Rattle.laws.specs.Sums.{ListSum, HeightsAtMost}
 use Rattle.laws.proofs.Cells.{length-cell_by_cell}
 use Rattle.laws.proofs.Maps.{flat_topped}
 use Rattle.laws.proofs.Openings.{opening_flat, shrunk}
-use Rattle.laws.proofs.Sums.{list_over_append, list_over_none, list_over_same}
+use Rattle.laws.proofs.Sums.{list_fold_append, list_fold_none, list_fold_same}
 use Rattle.laws.proofs.SumsOfCuts.{minus_over_cuts, sheets_are_sums_of_cuts}
 
 -- what was taken from a sheet and given back
@@ -48,9 +48,9 @@ module _ (cells : ℕ) (p : ℕ → List ℕ) (sized : (n : ℕ) → length (p n
 
 -- rows of pieces are sums where the pieces are
 rows_over_cuts : (top : ℕ) (p : ℕ → List ℕ) (q : ℕ → ℕ → List ℕ) → ((n : ℕ) → ListSum top (p n) (λ a. q a n)) → (n : ℕ) → ListSum top (in_a_row p n) (λ a. in_a_row (q a) n)
-rows_over_cuts top p q each zero = list_over_none ◌+◌ 0 refl top
+rows_over_cuts top p q each zero = list_fold_none ◌+◌ 0 refl top
 rows_over_cuts top p q each (suc n) =
-    list_over_append ◌+◌ 0 top (in_a_row p n) (p n) (λ a. in_a_row (q a) n) (λ a. q a n) (rows_over_cuts top p q each n) (each n)
+    list_fold_append ◌+◌ 0 top (in_a_row p n) (p n) (λ a. in_a_row (q a) n) (λ a. q a n) (rows_over_cuts top p q each n) (each n)
 
 module _ (cells : ℕ) (shrink swell : List ℕ → List ℕ) (laws : PairLaws cells shrink swell) (depth : ℕ) (f : List ℕ) (long : length f ≡ cells) where
   abbrev e : ℕ → List ℕ
@@ -91,24 +91,24 @@ module _ (cells : ℕ) (shrink swell : List ℕ → List ℕ) (laws : PairLaws c
   pub skeleton_rebuilds : (k : ℕ) → k ≤ depth → rebuilt swell cells depth pieces (depth - k) ≡ e k
   skeleton_rebuilds k low = rebuilt_so_far (depth - k) (omega arith) ∙ ap e (omega arith)
 
-  pub skeleton_over_cuts : (top : ℕ) → Topped top f → ListSum top pieces (λ a. skeleton shrink swell depth (cut a f))
+  pub skeleton_over_cuts : (top : ℕ) → HeightsAtMost top f → ListSum top pieces (λ a. skeleton shrink swell depth (cut a f))
   skeleton_over_cuts top t =
-      list_over_append ◌+◌ 0 top (in_a_row (skeleton_piece shrink swell f) depth) (e depth)
+      list_fold_append ◌+◌ 0 top (in_a_row (skeleton_piece shrink swell f) depth) (e depth)
       (λ a. in_a_row (skeleton_piece shrink swell (cut a f)) depth) (λ a. times depth shrink (cut a f))
       (rows_over_cuts top (skeleton_piece shrink swell f) (λ a. skeleton_piece shrink swell (cut a f)) piece_over_cuts depth)
-      (list_over_same ◌+◌ 0 top (e depth) (λ a. cut a (e depth)) (λ a. times depth shrink (cut a f)) (λ a low. sym (e_cut a low depth))
+      (list_fold_same ◌+◌ 0 top (e depth) (λ a. cut a (e depth)) (λ a. times depth shrink (cut a f)) (λ a low. sym (e_cut a low depth))
       (sheets_are_sums_of_cuts top (e depth) (e_topped depth)))
     where
       e_cut : (a : ℕ) → 1 ≤ a → (n : ℕ) → times n shrink (cut a f) ≡ cut a (e n)
       e_cut a low n = (shrunk cells shrink swell laws n).cuts a f low long
 
-      e_topped : (n : ℕ) → Topped top (e n)
+      e_topped : (n : ℕ) → HeightsAtMost top (e n)
       e_topped n = flat_topped cells (times n shrink) (shrunk cells shrink swell laws n) top f long t
 
       piece_over_cuts : (n : ℕ) → ListSum top (skeleton_piece shrink swell f n) (λ a. skeleton_piece shrink swell (cut a f) n)
       piece_over_cuts n =
           let flat = opening_flat cells shrink swell laws 1 in
-          list_over_same ◌+◌ 0 top (skeleton_piece shrink swell f n) (λ a. minus (cut a (e n)) (cut a (opening shrink swell 1 (e n)))) (λ a. skeleton_piece shrink swell (cut a f) n)
+          list_fold_same ◌+◌ 0 top (skeleton_piece shrink swell f n) (λ a. minus (cut a (e n)) (cut a (opening shrink swell 1 (e n)))) (λ a. skeleton_piece shrink swell (cut a f) n)
           (λ a low. (λ i. minus (sym (e_cut a low n) i) (sym (ap (opening shrink swell 1) (e_cut a low n) ∙ flat.cuts a (e n) low (sized n)) i)))
           (minus_over_cuts top (e n) (opening shrink swell 1 (e n)) (e_topped n) (flat_topped cells (opening shrink swell 1) flat top (e n) (sized n) (e_topped n)))
 

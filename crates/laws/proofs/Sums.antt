@@ -4,7 +4,7 @@ use Rattle.std.proofs.lemmas.Bool.{cases_lt}
 use Rattle.std.proofs.Math.ListN.{get_or-append}
 use Rattle.std.proofs.lemmas.List.{get_or-append_right, length-append}
 use Rattle.morphology.specs.Cells.{cell_by_cell, cut}
-use Rattle.laws.specs.Sums.{ListOver, Topped, over_heights}
+use Rattle.laws.specs.Sums.{ListFold, HeightsAtMost, fold_heights}
 use Rattle.std.proofs.lemmas.List.{get_or_past, length-map}
 use Rattle.laws.proofs.Cells.{get_or-shorter, length-shorter}
 use Rattle.laws.proofs.Cuts.{cut_height, topped_rest}
@@ -17,41 +17,41 @@ get_or-kept keep start idle (y ∷ ys) (suc k) = get_or-kept keep start idle ys 
 
 module _ {X : Type 0} (op : X → X → X) (start : X) where
   -- only the heights from 1 on matter
-  pub over_same : (top : ℕ) (f g : ℕ → X) → ((a : ℕ) → 1 ≤ a → f a ≡ g a) → over_heights op start top f ≡ over_heights op start top g
+  pub over_same : (top : ℕ) (f g : ℕ → X) → ((a : ℕ) → 1 ≤ a → f a ≡ g a) → fold_heights op start top f ≡ fold_heights op start top g
   over_same zero f g same = refl
   over_same (suc a) f g same =
-      ap (λ x. op x (f (suc a))) (over_same a f g same) ∙ ap (op (over_heights op start a g)) (same (suc a) (omega arith))
+      ap (λ x. op x (f (suc a))) (over_same a f g same) ∙ ap (op (fold_heights op start a g)) (same (suc a) (omega arith))
 
-  pub over_start : op start start ≡ start → (top : ℕ) → over_heights op start top (λ a. start) ≡ start
+  pub over_start : op start start ≡ start → (top : ℕ) → fold_heights op start top (λ a. start) ≡ start
   over_start idle zero = refl
   over_start idle (suc a) = ap (λ x. op x start) (over_start idle a) ∙ idle
 
   -- the operation of two such results
   pub over_both : op start start ≡ start → ((w x y z : X) → op (op w x) (op y z) ≡ op (op w y) (op x z)) → (top : ℕ) (f g : ℕ → X)
-      → over_heights op start top (λ a. op (f a) (g a)) ≡ op (over_heights op start top f) (over_heights op start top g)
+      → fold_heights op start top (λ a. op (f a) (g a)) ≡ op (fold_heights op start top f) (fold_heights op start top g)
   over_both idle swap zero f g = sym idle
   over_both idle swap (suc a) f g =
       ap (λ x. op x (op (f (suc a)) (g (suc a)))) (over_both idle swap a f g)
-      ∙ swap (over_heights op start a f) (over_heights op start a g) (f (suc a)) (g (suc a))
+      ∙ swap (fold_heights op start a f) (fold_heights op start a g) (f (suc a)) (g (suc a))
 
   -- what keeps the operation keeps its results
   pub over_kept : (keep : X → X) → keep start ≡ start → ((x y : X) → keep (op x y) ≡ op (keep x) (keep y)) → (top : ℕ) (f : ℕ → X)
-      → keep (over_heights op start top f) ≡ over_heights op start top (λ a. keep (f a))
+      → keep (fold_heights op start top f) ≡ fold_heights op start top (λ a. keep (f a))
   over_kept keep idle kept zero f = idle
   over_kept keep idle kept (suc a) f =
-      kept (over_heights op start a f) (f (suc a)) ∙ ap (λ x. op x (keep (f (suc a)))) (over_kept keep idle kept a f)
+      kept (fold_heights op start a f) (f (suc a)) ∙ ap (λ x. op x (keep (f (suc a)))) (over_kept keep idle kept a f)
 
-  pub list_over_same : (top : ℕ) (xs : List X) (f g : ℕ → List X) → ((a : ℕ) → 1 ≤ a → f a ≡ g a) → ListOver op start top xs f → ListOver op start top xs g
-  list_over_same top xs f g same s = record {
+  pub list_fold_same : (top : ℕ) (xs : List X) (f g : ℕ → List X) → ((a : ℕ) → 1 ≤ a → f a ≡ g a) → ListFold op start top xs f → ListFold op start top xs g
+  list_fold_same top xs f g same s = record {
     as_long = λ a low. ap length (sym (same a low)) ∙ s.as_long a low;
     number = λ k. s.number k ∙ over_same top _ _ (λ a low. ap (λ ys. get_or ys k start) (same a low));
   }
 
-  pub list_over_none : op start start ≡ start → (top : ℕ) → ListOver op start top [] (λ a. [])
-  list_over_none idle top = record { as_long = λ a low. refl; number = λ k. sym (over_start idle top) }
+  pub list_fold_none : op start start ≡ start → (top : ℕ) → ListFold op start top [] (λ a. [])
+  list_fold_none idle top = record { as_long = λ a low. refl; number = λ k. sym (over_start idle top) }
 
-  pub list_over_append : (top : ℕ) (xs ys : List X) (f g : ℕ → List X) → ListOver op start top xs f → ListOver op start top ys g → ListOver op start top (xs ++ ys) (λ a. f a ++ g a)
-  list_over_append top xs ys f g s t = record {
+  pub list_fold_append : (top : ℕ) (xs ys : List X) (f g : ℕ → List X) → ListFold op start top xs f → ListFold op start top ys g → ListFold op start top (xs ++ ys) (λ a. f a ++ g a)
+  list_fold_append top xs ys f g s t = record {
     as_long = λ a low. length-append (f a) (g a) ∙ (λ i. s.as_long a low i + t.as_long a low i) ∙ sym (length-append xs ys);
     number = λ k. elim (cases_lt k (length xs)) [
       | inl within ↦
@@ -63,35 +63,35 @@ module _ {X : Type 0} (op : X → X → X) (start : X) where
     ];
   }
 
-  pub list_over_one : op start start ≡ start → (top : ℕ) (x : X) (y : ℕ → X) → x ≡ over_heights op start top y → ListOver op start top (x ∷ []) (λ a. y a ∷ [])
-  list_over_one idle top x y is = record { as_long = λ a low. refl; number = at }
+  pub list_fold_one : op start start ≡ start → (top : ℕ) (x : X) (y : ℕ → X) → x ≡ fold_heights op start top y → ListFold op start top (x ∷ []) (λ a. y a ∷ [])
+  list_fold_one idle top x y is = record { as_long = λ a low. refl; number = at }
     where
-      at : (k : ℕ) → get_or (x ∷ []) k start ≡ over_heights op start top (λ a. get_or (y a ∷ []) k start)
+      at : (k : ℕ) → get_or (x ∷ []) k start ≡ fold_heights op start top (λ a. get_or (y a ∷ []) k start)
       at zero = is
       at (suc k) = sym (over_start idle top)
 
   -- a list of one result for each of some numbers
-  pub list_over_map : op start start ≡ start → {N : Type 0} → (top : ℕ) (ns : List N) (u : N → X) (v : ℕ → N → X) → ((n : N) → u n ≡ over_heights op start top (λ a. v a n))
-      → ListOver op start top (map u ns) (λ a. map (v a) ns)
-  list_over_map idle top [] u v each = list_over_none idle top
-  list_over_map idle top (n ∷ ns) u v each =
-      list_over_append top (u n ∷ []) (map u ns) (λ a. v a n ∷ []) (λ a. map (v a) ns)
-      (list_over_one idle top (u n) (λ a. v a n) (each n)) (list_over_map idle top ns u v each)
+  pub list_fold_map : op start start ≡ start → {N : Type 0} → (top : ℕ) (ns : List N) (u : N → X) (v : ℕ → N → X) → ((n : N) → u n ≡ fold_heights op start top (λ a. v a n))
+      → ListFold op start top (map u ns) (λ a. map (v a) ns)
+  list_fold_map idle top [] u v each = list_fold_none idle top
+  list_fold_map idle top (n ∷ ns) u v each =
+      list_fold_append top (u n ∷ []) (map u ns) (λ a. v a n ∷ []) (λ a. map (v a) ns)
+      (list_fold_one idle top (u n) (λ a. v a n) (each n)) (list_fold_map idle top ns u v each)
 
   -- of two sheets, what an operation makes of them cell by cell is over what it makes of their cuts, where that holds of two heights
-  pub cells_over_cuts : op start start ≡ start → (top : ℕ) (make : ℕ → ℕ → X) → ((x y : ℕ) → x ≤ top → y ≤ top → make x y ≡ over_heights op start top (λ a. make (cut_height a x) (cut_height a y)))
-      → (f g : List ℕ) → Topped top f → Topped top g → ListOver op start top (cell_by_cell make f g) (λ a. cell_by_cell make (cut a f) (cut a g))
-  cells_over_cuts idle top make each [] g s t = list_over_none idle top
-  cells_over_cuts idle top make each (x ∷ f) [] s t = list_over_none idle top
+  pub cells_over_cuts : op start start ≡ start → (top : ℕ) (make : ℕ → ℕ → X) → ((x y : ℕ) → x ≤ top → y ≤ top → make x y ≡ fold_heights op start top (λ a. make (cut_height a x) (cut_height a y)))
+      → (f g : List ℕ) → HeightsAtMost top f → HeightsAtMost top g → ListFold op start top (cell_by_cell make f g) (λ a. cell_by_cell make (cut a f) (cut a g))
+  cells_over_cuts idle top make each [] g s t = list_fold_none idle top
+  cells_over_cuts idle top make each (x ∷ f) [] s t = list_fold_none idle top
   cells_over_cuts idle top make each (x ∷ f) (y ∷ g) s t =
-      list_over_append top (make x y ∷ []) (cell_by_cell make f g) (λ a. make (cut_height a x) (cut_height a y) ∷ []) (λ a. cell_by_cell make (cut a f) (cut a g))
-      (list_over_one idle top (make x y) (λ a. make (cut_height a x) (cut_height a y)) (each x y (s 0) (t 0)))
+      list_fold_append top (make x y ∷ []) (cell_by_cell make f g) (λ a. make (cut_height a x) (cut_height a y) ∷ []) (λ a. cell_by_cell make (cut a f) (cut a g))
+      (list_fold_one idle top (make x y) (λ a. make (cut_height a x) (cut_height a y)) (each x y (s 0) (t 0)))
       (cells_over_cuts idle top make each f g (topped_rest top x f s) (topped_rest top y g t))
 
   -- two lists taken together by the operation, and a list whose numbers each become what keeps the operation
-  pub list_over_added : op start start ≡ start → ((w x y z : X) → op (op w x) (op y z) ≡ op (op w y) (op x z)) → (top : ℕ) (xs ys : List X) (f g : ℕ → List X)
-      → ListOver op start top xs f → ListOver op start top ys g → ListOver op start top (cell_by_cell op xs ys) (λ a. cell_by_cell op (f a) (g a))
-  list_over_added idle swap top xs ys f g s t = record {
+  pub list_fold_added : op start start ≡ start → ((w x y z : X) → op (op w x) (op y z) ≡ op (op w y) (op x z)) → (top : ℕ) (xs ys : List X) (f g : ℕ → List X)
+      → ListFold op start top xs f → ListFold op start top ys g → ListFold op start top (cell_by_cell op xs ys) (λ a. cell_by_cell op (f a) (g a))
+  list_fold_added idle swap top xs ys f g s t = record {
     as_long = λ a low. length-shorter op (f a) (g a) ∙ (λ i. min (s.as_long a low i) (t.as_long a low i)) ∙ sym (length-shorter op xs ys);
     number = λ k. elim (cases_lt k (min (length xs) (length ys))) [
       | inl within ↦
@@ -103,9 +103,9 @@ module _ {X : Type 0} (op : X → X → X) (start : X) where
     ];
   }
 
-  pub list_over_kept : (keep : X → X) → keep start ≡ start → ((x y : X) → keep (op x y) ≡ op (keep x) (keep y)) → (top : ℕ) (xs : List X) (f : ℕ → List X)
-      → ListOver op start top xs f → ListOver op start top (map keep xs) (λ a. map keep (f a))
-  list_over_kept keep idle kept top xs f s = record {
+  pub list_fold_kept : (keep : X → X) → keep start ≡ start → ((x y : X) → keep (op x y) ≡ op (keep x) (keep y)) → (top : ℕ) (xs : List X) (f : ℕ → List X)
+      → ListFold op start top xs f → ListFold op start top (map keep xs) (λ a. map keep (f a))
+  list_fold_kept keep idle kept top xs f s = record {
     as_long = λ a low. length-map (f a) keep ∙ s.as_long a low ∙ sym (length-map xs keep);
     number = λ k. get_or-kept keep start idle xs k ∙ ap keep (s.number k) ∙ over_kept keep idle kept top (λ a. get_or (f a) k start)
         ∙ over_same top _ _ (λ a low. sym (get_or-kept keep start idle (f a) k));

@@ -8,11 +8,11 @@ use Rattle.laws.proofs.Extremes.{extreme_cut}
 use Rattle.morphology.specs.Cells.{extreme_of, cut}
 use Rattle.morphology.specs.Sheets.{area}
 use Rattle.operators.specs.Skeletons.{minus}
-use Rattle.laws.specs.Sums.{IntListSum, ListSum, SheetsAreSumsOfCuts, Topped, int_sum_to, over_heights, sum_to}
+use Rattle.laws.specs.Sums.{IntListSum, ListSum, SheetsAreSumsOfCuts, HeightsAtMost, int_sum_to, fold_heights, sum_to}
 use Rattle.operators.specs.Tallies.{differed}
 use Rattle.laws.proofs.Cells.{area-cons}
 use Rattle.laws.proofs.Cuts.{cuts_alike, height_topped, cut_height, topped_rest}
-use Rattle.laws.proofs.Sums.{cells_over_cuts, list_over_append, list_over_none, list_over_one, over_both, over_same}
+use Rattle.laws.proofs.Sums.{cells_over_cuts, list_fold_append, list_fold_none, list_fold_one, over_both, over_same}
 
 pub swap_sums : (w x y z : ℕ) → (w + x) + (y + z) ≡ (w + y) + (x + z)
 swap_sums w x y z = omega arith
@@ -44,22 +44,22 @@ height_over_cuts top x below = let same : min x top ≡ x = omega arith in sym s
     all (suc a) x = let h = all a x in grind (arith, nat_tests)
 
 pub sheets_are_sums_of_cuts : SheetsAreSumsOfCuts
-sheets_are_sums_of_cuts top [] t = list_over_none ◌+◌ 0 refl top
+sheets_are_sums_of_cuts top [] t = list_fold_none ◌+◌ 0 refl top
 sheets_are_sums_of_cuts top (x ∷ f) t =
-    list_over_append ◌+◌ 0 top (x ∷ []) f (λ a. cut_height a x ∷ []) (λ a. cut a f)
-    (list_over_one ◌+◌ 0 refl top x (λ a. cut_height a x) (height_over_cuts top x (t 0))) (sheets_are_sums_of_cuts top f (topped_rest top x f t))
+    list_fold_append ◌+◌ 0 top (x ∷ []) f (λ a. cut_height a x ∷ []) (λ a. cut a f)
+    (list_fold_one ◌+◌ 0 refl top x (λ a. cut_height a x) (height_over_cuts top x (t 0))) (sheets_are_sums_of_cuts top f (topped_rest top x f t))
 
-pub minus_over_cuts : (top : ℕ) (f g : List ℕ) → Topped top f → Topped top g → ListSum top (minus f g) (λ a. minus (cut a f) (cut a g))
+pub minus_over_cuts : (top : ℕ) (f g : List ℕ) → HeightsAtMost top f → HeightsAtMost top g → ListSum top (minus f g) (λ a. minus (cut a f) (cut a g))
 minus_over_cuts top = cells_over_cuts ◌+◌ 0 refl top ◌-◌ (λ x y one two. let s = sum_of_minus top x y in omega arith)
 
-pub differed_over_cuts : (top : ℕ) (f g : List ℕ) → Topped top f → Topped top g → IntListSum top (differed f g) (λ a. differed (cut a f) (cut a g))
+pub differed_over_cuts : (top : ℕ) (f g : List ℕ) → HeightsAtMost top f → HeightsAtMost top g → IntListSum top (differed f g) (λ a. differed (cut a f) (cut a g))
 differed_over_cuts top = cells_over_cuts ◌+ℤ◌ (pos 0) refl top (λ x y. pos x -ℤ pos y) (λ x y one two.
     let left : min x top ≡ x = omega arith in
     let right : min y top ≡ y = omega arith in
     (λ i. pos (sym left i) -ℤ pos (sym right i)) ∙ sym (sum_of_differences top x y))
 
 -- the area of a sheet is the sum of the areas of its cuts
-pub area_over_cuts : (top : ℕ) (f : List ℕ) → Topped top f → area f ≡ sum_to top (λ a. area (cut a f))
+pub area_over_cuts : (top : ℕ) (f : List ℕ) → HeightsAtMost top f → area f ≡ sum_to top (λ a. area (cut a f))
 area_over_cuts top [] t = none top
   where
     none : (top : ℕ) → 0 ≡ sum_to top (λ a. 0)
@@ -69,10 +69,10 @@ area_over_cuts top (x ∷ f) t =
     area-cons x f
     ∙ (λ i. height_over_cuts top x (t 0) i + area_over_cuts top f (topped_rest top x f t) i)
     ∙ sym (over_both ◌+◌ 0 refl swap_sums top (λ a. cut_height a x) (λ a. area (cut a f)))
-    ∙ ap (over_heights ◌+◌ 0 top) (λ i a. sym (area-cons (cut_height a x) (cut a f)) i)
+    ∙ ap (fold_heights ◌+◌ 0 top) (λ i a. sym (area-cons (cut_height a x) (cut a f)) i)
 
 -- and its least and greatest height are the sums of those of its cuts
-pub extreme_over_cuts : (op : Operation) (top : ℕ) (f : List ℕ) → Topped top f → extreme_of op f ≡ sum_to top (λ a. extreme_of op (cut a f))
+pub extreme_over_cuts : (op : Operation) (top : ℕ) (f : List ℕ) → HeightsAtMost top f → extreme_of op f ≡ sum_to top (λ a. extreme_of op (cut a f))
 extreme_over_cuts op top f t =
     height_over_cuts top (extreme_of op f) (height_topped top (extreme_of op f) (λ j.
     sym (extreme_of_cut (suc top) (omega arith)) ∙ ap (extreme_of op) (cuts_alike top f t j) ∙ extreme_of_cut (suc top + j) (omega arith)))

@@ -5,7 +5,7 @@ use Rattle.operators.specs.Maps.{times}
 use Rattle.operators.specs.Reconstruction.{reconstructed, round, rounds}
 use Rattle.laws.specs.Maps.{Below}
 use Rattle.laws.specs.Pairs.{PairLaws}
-use Rattle.laws.specs.Sums.{Topped, greatest_to}
+use Rattle.laws.specs.Sums.{HeightsAtMost, greatest_to}
 
 -- Reconstruction by a map that swells: a further round would change nothing and each of the told rounds changes a cell; it
 -- commutes with cutting, and the rounds are the greatest of those of the cuts.
@@ -18,7 +18,7 @@ pub record ReconstructionLaws (cells : ℕ) (swell : List ℕ → List ℕ) : Ty
       round swell g (times t (round swell g) (met f g)) ≢ times t (round swell g) (met f g)
   pub cuts : (a : ℕ) (f g : List ℕ) → 1 ≤ a → length f ≡ cells → length g ≡ cells →
       reconstructed swell (cut a f) (cut a g) ≡ cut a (reconstructed swell f g)
-  pub most_rounds : (top : ℕ) (f g : List ℕ) → length f ≡ cells → length g ≡ cells → Topped top g →
+  pub most_rounds : (top : ℕ) (f g : List ℕ) → length f ≡ cells → length g ≡ cells → HeightsAtMost top g →
       rounds swell f g ≡ greatest_to top (λ a. rounds swell (cut a f) (cut a g))
 
 abbrev pub PairsReconstruct : Type 0

@@ -5,7 +5,7 @@ use Rattle.operators.specs.Maps.{times}
 use Rattle.operators.specs.Openings.{opening}
 use Rattle.operators.specs.Skeletons.{rebuilt, restored, skeleton}
 use Rattle.laws.specs.Pairs.{PairLaws}
-use Rattle.laws.specs.Sums.{ListSum, Topped}
+use Rattle.laws.specs.Sums.{ListSum, HeightsAtMost}
 
 -- A skeleton has a piece for each size up to its depth; what is rebuilt down to piece k is the sheet eroded k times, and restoring
 -- to size k gives the opening of size k; a skeleton is the sum of those of the cuts.
@@ -15,7 +15,7 @@ pub record SkeletonLaws (cells : ℕ) (shrink swell : List ℕ → List ℕ) : T
       rebuilt swell cells depth (skeleton shrink swell depth f) (depth - k) ≡ times k shrink f
   pub restores : (depth k : ℕ) (f : List ℕ) → length f ≡ cells → k ≤ depth →
       restored swell cells depth k (skeleton shrink swell depth f) ≡ opening shrink swell k f
-  pub sums : (top depth : ℕ) (f : List ℕ) → length f ≡ cells → Topped top f →
+  pub sums : (top depth : ℕ) (f : List ℕ) → length f ≡ cells → HeightsAtMost top f →
       ListSum top (skeleton shrink swell depth f) (λ a. skeleton shrink swell depth (cut a f))
 
 abbrev pub PairsRestore : Type 0

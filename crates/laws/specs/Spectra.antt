@@ -7,18 +7,18 @@ use Rattle.operators.specs.Openings.{opening}
 use Rattle.operators.specs.Spectra.{spectrum}
 use Rattle.laws.specs.Closings.{ClosingPairLaws}
 use Rattle.laws.specs.Pairs.{PairLaws}
-use Rattle.laws.specs.Sums.{ListSum, Topped}
+use Rattle.laws.specs.Sums.{ListSum, HeightsAtMost}
 
 -- No entry is a subtraction of more from less; a spectrum has two entries for each size up to its depth, and the rest; from size 0
 -- on the entries and the rest sum to the area of the sheet; and a spectrum is the sum of those of the cuts.
-pub record SpectrumLaws (cells : ℕ) (shrink swell recede : List ℕ → List ℕ) : Type 0 where
+pub record SpectrumLaws (cells : ℕ) (shrink swell shrink_inside : List ℕ → List ℕ) : Type 0 where
   pub falling : (n : ℕ) (f : List ℕ) → length f ≡ cells → area (opening shrink swell (n + 1) f) ≤ area (opening shrink swell n f)
-  pub growing : (n : ℕ) (f : List ℕ) → length f ≡ cells → area (closing swell recede (n - 1) f) ≤ area (closing swell recede n f)
-  pub long : (depth : ℕ) (f : List ℕ) → length f ≡ cells → length (spectrum shrink swell recede depth f) ≡ depth + depth + 1
-  pub total : (depth : ℕ) (f : List ℕ) → length f ≡ cells → sum (drop depth (spectrum shrink swell recede depth f)) ≡ area f
-  pub sums : (top depth : ℕ) (f : List ℕ) → length f ≡ cells → Topped top f →
-      ListSum top (spectrum shrink swell recede depth f) (λ a. spectrum shrink swell recede depth (cut a f))
+  pub growing : (n : ℕ) (f : List ℕ) → length f ≡ cells → area (closing swell shrink_inside (n - 1) f) ≤ area (closing swell shrink_inside n f)
+  pub long : (depth : ℕ) (f : List ℕ) → length f ≡ cells → length (spectrum shrink swell shrink_inside depth f) ≡ depth + depth + 1
+  pub total : (depth : ℕ) (f : List ℕ) → length f ≡ cells → sum (drop depth (spectrum shrink swell shrink_inside depth f)) ≡ area f
+  pub sums : (top depth : ℕ) (f : List ℕ) → length f ≡ cells → HeightsAtMost top f →
+      ListSum top (spectrum shrink swell shrink_inside depth f) (λ a. spectrum shrink swell shrink_inside depth (cut a f))
 
 abbrev pub PairsHaveSpectra : Type 0
-PairsHaveSpectra = (cells : ℕ) (shrink swell recede : List ℕ → List ℕ) →
-    PairLaws cells shrink swell → ClosingPairLaws cells swell recede → SpectrumLaws cells shrink swell recede
+PairsHaveSpectra = (cells : ℕ) (shrink swell shrink_inside : List ℕ → List ℕ) →
+    PairLaws cells shrink swell → ClosingPairLaws cells swell shrink_inside → SpectrumLaws cells shrink swell shrink_inside

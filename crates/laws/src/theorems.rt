@@ -1,5 +1,5 @@
 // The laws, each the contract of a function that does nothing.
-ghost use Rattle.laws.specs.Closings.{DilationAndInnerErosionClose, PairsClose};
+ghost use Rattle.laws.specs.Closings.{DilationAndErosionInsideClose, PairsClose};
 ghost use Rattle.laws.specs.Openings.{PairsOpen};
 ghost use Rattle.laws.specs.Pairs.{ErosionAndDilationArePair};
 ghost use Rattle.laws.specs.Reconstruction.{PairsReconstruct};
@@ -12,7 +12,7 @@ use elements::Element;
 /// Erosion and dilation by an element keep the laws of a pair, and so do dilation and the erosion of closings.
 pub fn element_laws(element: &Element)
     ensures pair { ErosionAndDilationArePair element.now }
-    ensures closing { DilationAndInnerErosionClose element.now }
+    ensures closing { DilationAndErosionInsideClose element.now }
 {}
 
 /// Openings by any such pair never rise above the sheet and fall with the size, and a sheet is the sum of its cuts.

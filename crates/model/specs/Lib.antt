@@ -1,5 +1,8 @@
+pub mod ByElement
+pub mod SheetCalls
+pub mod Weights
+pub mod TallyCalls
+pub mod ListCalls
 pub mod Calls
-pub mod Tallies
-pub mod Refusals
 pub mod Steps
 pub mod WorkedRuns

@@ -1,7 +1,7 @@
 // The worked runs of the model.
 ghost use Rattle.model.specs.WorkedRuns.{RunsAreRight};
 
-/// The definitions of the calls give the worked runs, with any element.
+/// The definitions of the calls give the worked runs.
 pub fn worked_runs()
     ensures { RunsAreRight }
 {}

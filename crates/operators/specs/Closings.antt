@@ -1,7 +1,7 @@
 -- Closings. Assumes nothing.
-use Rattle.std.specs.Prelude.{ℕ, Bool, false, ◌&&◌, List, map, ℤ, pos, negsuc, ◌+ℤ◌, filter, nat_lt}
+use Rattle.std.specs.Prelude.{ℕ, ◌-◌, Bool, false, ◌&&◌, List, map, ℤ, pos, negsuc, ◌+ℤ◌, filter, nat_lt}
 use Rattle.morphology.specs.Erosion.{least}
-use Rattle.morphology.specs.Sheets.{by_cells, height_at}
+use Rattle.morphology.specs.Sheets.{area, by_cells, height_at}
 use Rattle.operators.specs.Maps.{times}
 
 -- whether column m and row n lie on a sheet of w × h heights
@@ -11,14 +11,18 @@ on_sheet w h (pos m) (negsuc n) = false
 on_sheet w h (negsuc m) n = false
 
 -- the erosion of closings at column m and row n: the least of f(m + i, n + j) over the offsets (i, j) that stay on the sheet
-abbrev pub inner_erosion_at : ℕ → ℕ → List (ℤ × ℤ) → List ℕ → ℕ → ℕ → ℕ
-inner_erosion_at w h offsets f m n =
+abbrev pub erosion_inside_at : ℕ → ℕ → List (ℤ × ℤ) → List ℕ → ℕ → ℕ → ℕ
+erosion_inside_at w h offsets f m n =
     least (map (λ o. height_at w h f (pos m +ℤ o.0) (pos n +ℤ o.1))
     (filter (λ o. on_sheet w h (pos m +ℤ o.0) (pos n +ℤ o.1)) offsets))
 
-abbrev pub inner_eroded : ℕ → ℕ → List (ℤ × ℤ) → List ℕ → List ℕ
-inner_eroded w h offsets f = by_cells w h (inner_erosion_at w h offsets f)
+abbrev pub eroded_inside : ℕ → ℕ → List (ℤ × ℤ) → List ℕ → List ℕ
+eroded_inside w h offsets f = by_cells w h (erosion_inside_at w h offsets f)
 
 -- closing of size k: k dilations, then k erosions that skip offsets falling outside; size 0 is the sheet itself
 abbrev pub closing : (List ℕ → List ℕ) → (List ℕ → List ℕ) → ℕ → List ℕ → List ℕ
-closing swell recede k f = times k recede (times k swell f)
+closing swell shrink_inside k f = times k shrink_inside (times k swell f)
+
+-- the entry of size −n of a pattern spectrum: the area of the closing of size n minus that of the size before
+abbrev pub closing_entry : (List ℕ → List ℕ) → (List ℕ → List ℕ) → List ℕ → ℕ → ℕ
+closing_entry swell shrink_inside f n = area (closing swell shrink_inside n f) - area (closing swell shrink_inside (n - 1) f)

@@ -3,6 +3,7 @@ pub mod Openings
 pub mod Closings
 pub mod Reconstruction
 pub mod Tallies
+pub mod Valleys
 pub mod Skeletons
 pub mod Restoring
 pub mod Spectra

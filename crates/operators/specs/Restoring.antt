@@ -5,10 +5,11 @@ use Rattle.limits.specs.declared.fault.Fault.{Fault}
 use Rattle.limits.specs.declared.fault.Fault.TheVariants.{Side, Length, SizeOrDepth, ListLength, RestoreCell}
 use Rattle.limits.specs.Faults.{first}
 use Rattle.limits.specs.Sizes.{lawful_side, lawful_size}
-use Rattle.operators.specs.Skeletons.{rebuilt}
+use Rattle.operators.specs.Skeletons.{rebuilt, restored}
 
--- The sides, then the lengths of the answer list and the work list, then the depth and the size, then the length of the skeleton
--- list, then a cell that is above 65,536 before the last dilations.
+-- For a skeleton to a depth, restored to a size by a map that swells sheets of w × h cells: the sides, then the lengths of the answer
+-- list and the work list, then the depth and the size, then the length of the skeleton list, then a cell that is above 65,536
+-- before the last dilations. No step before lowers a cell, so the last of these sheets tells of all.
 abbrev pub restore_refusal : (List ℕ → List ℕ) → ℕ → ℕ → ℕ → ℕ → List ℕ → ℕ → ℕ → Option Fault
 restore_refusal swell w h depth size pieces answer_len work_len =
     first (not (lawful_side w && lawful_side h)) Side
@@ -17,8 +18,18 @@ restore_refusal swell w h depth size pieces answer_len work_len =
     (first (not (length pieces == (depth + 1) * (w * h))) ListLength
     (first (list_any (nat_lt 65536) (rebuilt swell (w * h) depth pieces (depth - size))) RestoreCell None))))
 
--- What stands in a list afterwards: where the call is accepted, this; where a cell was too high, zeros; else what it held.
-abbrev pub restore_leaves : Option Fault → List ℕ → List ℕ → List ℕ
-restore_leaves None made old = made
-restore_leaves (Some RestoreCell) made old = replicate (length old) 0
-restore_leaves (Some fault) made old = old
+-- what stands in a list that held `old`: this where the call is accepted, zeros where a cell was too high, and else what it held
+abbrev pub written : Option Fault → List ℕ → List ℕ → List ℕ
+written None this old = this
+written (Some RestoreCell) this old = replicate (length old) 0
+written (Some fault) this old = old
+
+-- the answer list afterwards: the restored sheet
+abbrev pub answer_list : (List ℕ → List ℕ) → ℕ → ℕ → ℕ → ℕ → List ℕ → List ℕ → List ℕ → List ℕ
+answer_list swell w h depth size pieces answer work =
+    written (restore_refusal swell w h depth size pieces (length answer) (length work)) (restored swell (w * h) depth size pieces) answer
+
+-- the work list afterwards: zeros
+abbrev pub work_list : (List ℕ → List ℕ) → ℕ → ℕ → ℕ → ℕ → List ℕ → List ℕ → List ℕ → List ℕ
+work_list swell w h depth size pieces answer work =
+    written (restore_refusal swell w h depth size pieces (length answer) (length work)) (replicate (w * h) 0) work

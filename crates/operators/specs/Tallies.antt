@@ -1,7 +1,6 @@
 -- Signed differences of sheets, as tallies hold them, and sums and multiples of these. Assumes nothing.
 use Rattle.std.specs.Prelude.{ℕ, List, map, ℤ, pos, ◌+ℤ◌, ◌-ℤ◌, ◌*ℤ◌}
 use Rattle.morphology.specs.Cells.{cell_by_cell}
-use Rattle.operators.specs.Closings.{closing}
 use Rattle.operators.specs.Openings.{opening}
 
 -- the heights of one sheet minus those of another
@@ -15,10 +14,6 @@ edge shrink f = differed f (shrink f)
 -- peak: the sheet minus its opening of size 1
 abbrev pub peak : (List ℕ → List ℕ) → (List ℕ → List ℕ) → List ℕ → List ℤ
 peak shrink swell f = differed f (opening shrink swell 1 f)
-
--- valley: the closing of size 1 minus the sheet
-abbrev pub valley : (List ℕ → List ℕ) → (List ℕ → List ℕ) → List ℕ → List ℤ
-valley swell recede f = differed (closing swell recede 1 f) f
 
 -- the sums of two tallies' cells
 abbrev pub added : List ℤ → List ℤ → List ℤ

@@ -4,13 +4,14 @@ use Rattle.std.proofs.lemmas.Bool.{leb-true, and_parts, false≢true}
 use Rattle.limits.specs.declared.fault.Fault.{Fault}
 use Rattle.limits.specs.declared.fault.Fault.TheVariants.{EmptySheet, SheetPlace, Unequal, VisitOpen}
 use Rattle.std.specs.Prelude.{◌==◌}
-use Rattle.model.specs.Tallies.{lawful_factor}
+use Rattle.model.specs.ListCalls.{depth_refusal}
+use Rattle.model.specs.SheetCalls.{sized_refusal}
+use Rattle.model.specs.TallyCalls.{add_refusal, difference_refusal, lawful_factor, scale_refusal}
 use Rattle.limits.specs.Faults.{first, tells, told}
 use Rattle.limits.specs.Sizes.{lawful_size}
 use Rattle.bench.specs.Model.{Outline, is_place}
 use Rattle.bench.specs.Calls.{begin_refusal, equal_benches, make_refusal, same_visit}
 use Rattle.bench.proofs.Refusals.{make_accepted, source_accepted}
-use Rattle.model.specs.Refusals.{add_refusal, difference_refusal, listing_refusal, scale_refusal, sized_refusal}
 
 -- a table that refuses nothing has passed the test that comes first, and refuses nothing after it
 pub passed : (test : Bool) (fault : Fault) (rest : Option Fault) → first (not test) fault rest ≡ None → (test ≡ true) × (rest ≡ None)
@@ -84,8 +85,8 @@ pub record Listed (o : Outline) (depth place : ℕ) : Type 0 where
   pub lawful : lawful_size depth ≡ true
   pub filled : o.filled place ≡ true
 
-pub listing_listed : (o : Outline) (depth place len wanted : ℕ) → listing_refusal o depth place len wanted ≡ None → Listed o depth place
-listing_listed o depth place len wanted h =
+pub depth_listed : (o : Outline) (depth place len wanted : ℕ) → depth_refusal o depth place len wanted ≡ None → Listed o depth place
+depth_listed o depth place len wanted h =
     let there = passed (is_place o.places place) _ _ h in
     let deep = passed (lawful_size depth) _ _ there.1 in
     let long = passed (len == wanted) _ _ deep.1 in

@@ -19,18 +19,22 @@ use Rattle.operators.specs.Reconstruction.{rounds}
 use Rattle.operators.specs.Skeletons.{skeleton}
 use Rattle.operators.specs.Spectra.{spectrum}
 use Rattle.laws.specs.Sums.{ListSum, greatest_to, sum_to}
-use Rattle.laws.proofs.ElementLaws.{dilation_and_inner_erosion_close, erosion_and_dilation_are_pair}
+use Rattle.laws.proofs.ElementLaws.{dilation_and_erosion_inside_close, erosion_and_dilation_are_pair}
 use Rattle.laws.proofs.Skeletons.{pairs_restore}
 use Rattle.laws.proofs.Spectra.{pairs_have_spectra}
-use Rattle.laws.proofs.Sums.{list_over_added, list_over_kept, list_over_same, over_same}
+use Rattle.laws.proofs.Sums.{list_fold_added, list_fold_kept, list_fold_same, over_same}
 use Rattle.laws.proofs.SumsOfCuts.{area_over_cuts, extreme_over_cuts, swap_int_sums}
 use Rattle.model.specs.Calls.{Call, Begin, End, Load, Erode, Dilate, Open, Close, Meet, Join, Regrow, Edge, Peak, Valley, Differ, Add, Scale, Area, Span, Spectrum, Skeleton, ShowSheet, ShowTally, SheetTold}
-use Rattle.model.specs.Refusals.{add_refusal, difference_refusal, refusal, scale_refusal, sized_refusal, skeleton_refusal, spectrum_refusal}
-use Rattle.model.specs.Steps.{Bench, closed_by, leaves, made_of, opened_by, recede, regrown_by, shrink, swell, the_first, the_second, told_by, with_sheet, with_tally}
+use Rattle.model.specs.ByElement.{closing_by, opening_by, reconstruction_by, shrink, shrink_inside, swell}
+use Rattle.model.specs.ListCalls.{skeleton_refusal, spectrum_refusal}
+use Rattle.model.specs.SheetCalls.{sized_refusal}
+use Rattle.model.specs.Steps.{Bench}
+use Rattle.model.specs.TallyCalls.{add_refusal, difference_refusal, scale_refusal}
+use Rattle.model.specs.Weights.{multiple, sum_of_tallies, tally_of}
+use Rattle.runs.proofs.Parts.{difference_of, leaves, made_of, refusal, the_first, the_second, told_by, with_sheet, with_tally}
 use Rattle.runs.specs.Sums.{BenchSum, TallySum, ToldSum}
-use Rattle.model.specs.Tallies.{difference, multiple, sum_of_tallies, tally_of}
 use Rattle.runs.specs.Theorems.{WithinWeight, cut_at, in_heights}
-use Rattle.runs.proofs.Accepted.{Sources, add_light, difference_sources, listing_listed, make_sources, scale_light, sized_sources}
+use Rattle.runs.proofs.Accepted.{Sources, add_light, difference_sources, depth_listed, make_sources, scale_light, sized_sources}
 use Rattle.runs.proofs.Makings.{CutMaking, closing_making, element_making, first_making, join_making, meet_making, opening_making, regrow_laws, regrow_making, second_making}
 use Rattle.runs.proofs.Multiples.{multiple_of_sum}
 use Rattle.runs.proofs.Reached.{Reached, begin_reached, end_reached, picture_topped, sheet_reached, tally_reached}
@@ -46,18 +50,18 @@ pub record Goes (top : ℕ) (start b : Bench) (bs : ℕ → Bench) : Type 0 wher
 sum_of_tallies_sum : (top : ℕ) (t u : Tally) (ts us : ℕ → Tally) → TallySum top t ts → TallySum top u us → TallySum top (sum_of_tallies t u) (λ a. sum_of_tallies (ts a) (us a))
 sum_of_tallies_sum top t u ts us one other = record {
   weight = λ a low. (λ i. one.weight a low i + other.weight a low i);
-  cells = list_over_added ◌+ℤ◌ (pos 0) refl swap_int_sums top t.cells u.cells (λ a. (ts a).cells) (λ a. (us a).cells) one.cells other.cells;
+  cells = list_fold_added ◌+ℤ◌ (pos 0) refl swap_int_sums top t.cells u.cells (λ a. (ts a).cells) (λ a. (us a).cells) one.cells other.cells;
 }
 
 multiple_sum : (top : ℕ) (factor : ℤ) (t : Tally) (ts : ℕ → Tally) → TallySum top t ts → TallySum top (multiple factor t) (λ a. multiple factor (ts a))
 multiple_sum top factor t ts one = record {
   weight = λ a low. ap (λ n. unsigned_abs factor * n) (one.weight a low);
-  cells = list_over_kept ◌+ℤ◌ (pos 0) (λ x. factor *ℤ x) (*ℤ-zero factor) (multiple_of_sum factor) top t.cells (λ a. (ts a).cells) one.cells;
+  cells = list_fold_kept ◌+ℤ◌ (pos 0) (λ x. factor *ℤ x) (*ℤ-zero factor) (multiple_of_sum factor) top t.cells (λ a. (ts a).cells) one.cells;
 }
 
 module _ {X : Type 0} (height : X → ℕ) (top : ℕ) (bounded : (x : X) → height x ≤ top) (start b : Bench) (bs : ℕ → Bench) (g : Goes top start b bs) where
   -- every call is refused alike
-  pub refused_alike : (c : Call X) (a : ℕ) → 1 ≤ a → refusal (bs a).rack (bs a).slate (cut_at height a c) ≡ refusal b.rack b.slate (in_heights height c)
+  pub refused_alike : (c : Call X) (a : ℕ) → 1 ≤ a → refusal (bs a) (cut_at height a c) ≡ refusal b (in_heights height c)
   refused_alike (Begin flat) a low = λ i. begin_refusal (g.sum.rack a low i) (g.sum.slate a low i) flat
   refused_alike (End flat) a low = λ i. end_refusal (g.sum.rack a low i) (g.sum.slate a low i) flat
   refused_alike (Load place picture) a low = λ i. load_refusal (g.sum.rack a low i) place (length-map {B = ℕ} (map height picture) (λ x. cond (leb a x) 1 0) i)
@@ -93,15 +97,15 @@ module _ {X : Type 0} (height : X → ℕ) (top : ℕ) (bounded : (x : X) → he
   tally_goes to t ts sums visit within = record { sum = tally_sum top b bs g.sum to t ts sums; reached = tally_reached top start b g.reached to t visit within }
 
   difference_goes : (more less : Making) → CutMaking more → CutMaking less → (one other to : ℕ) → Sources b.rack.outline one other × (is_some b.slate.outline.visit ≡ true)
-      → Goes top start (with_tally b to (difference (made_of more b one other) (made_of less b one other))) (λ a. with_tally (bs a) to (difference (made_of more (bs a) one other) (made_of less (bs a) one other)))
+      → Goes top start (with_tally b to (difference_of more less b one other)) (λ a. with_tally (bs a) to (difference_of more less (bs a) one other))
   difference_goes more less M L one other to (src, visit) =
-      tally_goes to (difference (made_of more b one other) (made_of less b one other)) (λ a. difference (made_of more (bs a) one other) (made_of less (bs a) one other))
+      tally_goes to (difference_of more less b one other) (λ a. difference_of more less (bs a) one other)
       (difference_sum top b bs g.sum g.reached.held one other src.one_filled src.other_filled more less M L) visit
       (difference_within top (made_of more b one other) (made_of less b one other)
       (made_of_topped top b bs g.sum g.reached.held one other src.one_filled src.other_filled more M) (made_of_topped top b bs g.sum g.reached.held one other src.one_filled src.other_filled less L))
 
   -- what every accepted call leaves
-  pub leaves_goes : (c : Call X) → refusal b.rack b.slate (in_heights height c) ≡ None → Goes top start (leaves b (in_heights height c)) (λ a. leaves (bs a) (cut_at height a c))
+  pub leaves_goes : (c : Call X) → refusal b (in_heights height c) ≡ None → Goes top start (leaves b (in_heights height c)) (λ a. leaves (bs a) (cut_at height a c))
   leaves_goes (Begin flat) h = record { sum = begin_sum top b bs g.sum flat; reached = begin_reached top start b g.reached flat }
   leaves_goes (End flat) h = record { sum = end_sum top b bs g.sum; reached = end_reached top start b g.reached }
   leaves_goes (Load place picture) h =
@@ -112,14 +116,14 @@ module _ {X : Type 0} (height : X → ℕ) (top : ℕ) (bounded : (x : X) → he
       }
   leaves_goes (Erode e from to) h = made_goes (by_element Erosion (offsets e)) (element_making Erosion e) from from to (make_sources b.rack.outline from from to h)
   leaves_goes (Dilate e from to) h = made_goes (by_element Dilation (offsets e)) (element_making Dilation e) from from to (make_sources b.rack.outline from from to h)
-  leaves_goes (Open e size from to) h = made_goes (opened_by e size) (opening_making e size) from from to (sized_sources b.rack.outline size from to h)
-  leaves_goes (Close e size from to) h = made_goes (closed_by e size) (closing_making e size) from from to (sized_sources b.rack.outline size from to h)
+  leaves_goes (Open e size from to) h = made_goes (opening_by e size) (opening_making e size) from from to (sized_sources b.rack.outline size from to h)
+  leaves_goes (Close e size from to) h = made_goes (closing_by e size) (closing_making e size) from from to (sized_sources b.rack.outline size from to h)
   leaves_goes (Meet one other to) h = made_goes (λ w h. met) meet_making one other to (make_sources b.rack.outline one other to h)
   leaves_goes (Join one other to) h = made_goes (λ w h. joined) join_making one other to (make_sources b.rack.outline one other to h)
-  leaves_goes (Regrow e marker upper to) h = made_goes (regrown_by e) (regrow_making e) marker upper to (make_sources b.rack.outline marker upper to h)
+  leaves_goes (Regrow e marker upper to) h = made_goes (reconstruction_by e) (regrow_making e) marker upper to (make_sources b.rack.outline marker upper to h)
   leaves_goes (Edge e from to) h = difference_goes the_first (by_element Erosion (offsets e)) first_making (element_making Erosion e) from from to (difference_sources b.rack.outline b.slate.outline from from to h)
-  leaves_goes (Peak e from to) h = difference_goes the_first (opened_by e 1) first_making (opening_making e 1) from from to (difference_sources b.rack.outline b.slate.outline from from to h)
-  leaves_goes (Valley e from to) h = difference_goes (closed_by e 1) the_first (closing_making e 1) first_making from from to (difference_sources b.rack.outline b.slate.outline from from to h)
+  leaves_goes (Peak e from to) h = difference_goes the_first (opening_by e 1) first_making (opening_making e 1) from from to (difference_sources b.rack.outline b.slate.outline from from to h)
+  leaves_goes (Valley e from to) h = difference_goes (closing_by e 1) the_first (closing_making e 1) first_making from from to (difference_sources b.rack.outline b.slate.outline from from to h)
   leaves_goes (Differ one other to) h = difference_goes the_first the_second first_making second_making one other to (difference_sources b.rack.outline b.slate.outline one other to h)
   leaves_goes (Add one other to) h =
       let light = add_light b.slate.outline (sum_of_tallies (tally_of b.slate one) (tally_of b.slate other)).weight one other to h in
@@ -151,15 +155,15 @@ module _ {X : Type 0} (height : X → ℕ) (top : ℕ) (bounded : (x : X) → he
       (regrow_laws e w tall).most_rounds top (sheet_of b.rack marker) (sheet_of b.rack upper) (g.reached.held.sized marker src.one_filled) (g.reached.held.sized upper src.other_filled) (g.reached.held.topped upper)
       ∙ over_same max 0 top _ _ (λ a low. (λ i. rounds (swell e (sym (g.sum.rack a low) i).w (sym (g.sum.rack a low) i).h) (sym (g.sum.sheets a marker low) i) (sym (g.sum.sheets a upper low) i)))
 
-  spectrum_told : (e : Element) (depth place : ℕ) → b.rack.outline.filled place ≡ true → ListSum top (spectrum (shrink e w tall) (swell e w tall) (recede e w tall) depth (sheet_of b.rack place))
-      (λ a. spectrum (shrink e (bs a).rack.outline.w (bs a).rack.outline.h) (swell e (bs a).rack.outline.w (bs a).rack.outline.h) (recede e (bs a).rack.outline.w (bs a).rack.outline.h) depth (sheet_of (bs a).rack place))
-  spectrum_told e depth place filled = list_over_same ◌+◌ 0 top _ _ _
-      (λ a low. (λ i. spectrum (shrink e (sym (g.sum.rack a low) i).w (sym (g.sum.rack a low) i).h) (swell e (sym (g.sum.rack a low) i).w (sym (g.sum.rack a low) i).h) (recede e (sym (g.sum.rack a low) i).w (sym (g.sum.rack a low) i).h) depth (sym (g.sum.sheets a place low) i)))
-      ((pairs_have_spectra (w * tall) (shrink e w tall) (swell e w tall) (recede e w tall) (erosion_and_dilation_are_pair e w tall) (dilation_and_inner_erosion_close e w tall)).sums top depth (sheet_of b.rack place) (g.reached.held.sized place filled) (g.reached.held.topped place))
+  spectrum_told : (e : Element) (depth place : ℕ) → b.rack.outline.filled place ≡ true → ListSum top (spectrum (shrink e w tall) (swell e w tall) (shrink_inside e w tall) depth (sheet_of b.rack place))
+      (λ a. spectrum (shrink e (bs a).rack.outline.w (bs a).rack.outline.h) (swell e (bs a).rack.outline.w (bs a).rack.outline.h) (shrink_inside e (bs a).rack.outline.w (bs a).rack.outline.h) depth (sheet_of (bs a).rack place))
+  spectrum_told e depth place filled = list_fold_same ◌+◌ 0 top _ _ _
+      (λ a low. (λ i. spectrum (shrink e (sym (g.sum.rack a low) i).w (sym (g.sum.rack a low) i).h) (swell e (sym (g.sum.rack a low) i).w (sym (g.sum.rack a low) i).h) (shrink_inside e (sym (g.sum.rack a low) i).w (sym (g.sum.rack a low) i).h) depth (sym (g.sum.sheets a place low) i)))
+      ((pairs_have_spectra (w * tall) (shrink e w tall) (swell e w tall) (shrink_inside e w tall) (erosion_and_dilation_are_pair e w tall) (dilation_and_erosion_inside_close e w tall)).sums top depth (sheet_of b.rack place) (g.reached.held.sized place filled) (g.reached.held.topped place))
 
   skeleton_told : (e : Element) (depth place : ℕ) → b.rack.outline.filled place ≡ true → ListSum top (skeleton (shrink e w tall) (swell e w tall) depth (sheet_of b.rack place))
       (λ a. skeleton (shrink e (bs a).rack.outline.w (bs a).rack.outline.h) (swell e (bs a).rack.outline.w (bs a).rack.outline.h) depth (sheet_of (bs a).rack place))
-  skeleton_told e depth place filled = list_over_same ◌+◌ 0 top _ _ _
+  skeleton_told e depth place filled = list_fold_same ◌+◌ 0 top _ _ _
       (λ a low. (λ i. skeleton (shrink e (sym (g.sum.rack a low) i).w (sym (g.sum.rack a low) i).h) (swell e (sym (g.sum.rack a low) i).w (sym (g.sum.rack a low) i).h) depth (sym (g.sum.sheets a place low) i)))
       ((pairs_restore (w * tall) (shrink e w tall) (swell e w tall) (erosion_and_dilation_are_pair e w tall)).sums top depth (sheet_of b.rack place) (g.reached.held.sized place filled) (g.reached.held.topped place))
 
@@ -167,7 +171,7 @@ module _ {X : Type 0} (height : X → ℕ) (top : ℕ) (bounded : (x : X) → he
   extreme_told op place = extreme_over_cuts op top (sheet_of b.rack place) (g.reached.held.topped place) ∙ over_same ◌+◌ 0 top _ _ (λ a low. ap (extreme_of op) (sym (g.sum.sheets a place low)))
 
   -- what every accepted call tells
-  pub told_sum : (c : Call X) → refusal b.rack b.slate (in_heights height c) ≡ None → ToldSum top (told_by b (in_heights height c)) (λ a. told_by (bs a) (cut_at height a c))
+  pub told_sum : (c : Call X) → refusal b (in_heights height c) ≡ None → ToldSum top (told_by b (in_heights height c)) (λ a. told_by (bs a) (cut_at height a c))
   told_sum (Begin flat) h = λ a low. refl
   told_sum (End flat) h = λ a low. refl
   told_sum (Load place picture) h = λ a low. refl
@@ -198,14 +202,14 @@ module _ {X : Type 0} (height : X → ℕ) (top : ℕ) (bounded : (x : X) → he
     extreme_told Dilation place,
   )
   told_sum (Spectrum e depth place len) h = (
-    (λ a. spectrum (shrink e (bs a).rack.outline.w (bs a).rack.outline.h) (swell e (bs a).rack.outline.w (bs a).rack.outline.h) (recede e (bs a).rack.outline.w (bs a).rack.outline.h) depth (sheet_of (bs a).rack place)),
+    (λ a. spectrum (shrink e (bs a).rack.outline.w (bs a).rack.outline.h) (swell e (bs a).rack.outline.w (bs a).rack.outline.h) (shrink_inside e (bs a).rack.outline.w (bs a).rack.outline.h) depth (sheet_of (bs a).rack place)),
     (λ a low. refl),
-    spectrum_told e depth place (listing_listed b.rack.outline depth place len _ h).filled,
+    spectrum_told e depth place (depth_listed b.rack.outline depth place len _ h).filled,
   )
   told_sum (Skeleton e depth place len) h = (
     (λ a. skeleton (shrink e (bs a).rack.outline.w (bs a).rack.outline.h) (swell e (bs a).rack.outline.w (bs a).rack.outline.h) depth (sheet_of (bs a).rack place)),
     (λ a low. refl),
-    skeleton_told e depth place (listing_listed b.rack.outline depth place len _ h).filled,
+    skeleton_told e depth place (depth_listed b.rack.outline depth place len _ h).filled,
   )
   told_sum (ShowSheet place len) h = λ a low. ap SheetTold (g.sum.sheets a place low)
   told_sum (ShowTally place len) h = ((λ a. tally_of (bs a).slate place), (λ a low. refl), g.sum.tallies place)

@@ -1,10 +1,11 @@
+pub mod Parts
 pub mod Makings
 pub mod Stored
 pub mod Accepted
+pub mod Multiples
 pub mod Weights
 pub mod Reached
-pub mod Multiples
 pub mod Calls
+pub mod FirstByNumber
 pub mod Runs
 pub mod RunLaws
-pub mod Coded

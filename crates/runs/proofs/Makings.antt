@@ -11,22 +11,23 @@ use Rattle.operators.specs.Closings.{closing}
 use Rattle.laws.specs.Maps.{FlatOperator}
 use Rattle.operators.specs.Openings.{opening}
 use Rattle.laws.specs.Reconstruction.{ReconstructionLaws}
-use Rattle.laws.specs.Sums.{Topped}
+use Rattle.laws.specs.Sums.{HeightsAtMost}
 use Rattle.laws.proofs.Cells.{cut-joined, cut-met, length-cell_by_cell}
 use Rattle.laws.proofs.Closings.{pairs_close}
 use Rattle.laws.proofs.Cuts.{cuts_alike, sheet_topped}
-use Rattle.laws.proofs.ElementLaws.{dilation_and_inner_erosion_close, erosion_and_dilation_are_pair}
+use Rattle.laws.proofs.ElementLaws.{dilation_and_erosion_inside_close, erosion_and_dilation_are_pair}
 use Rattle.laws.proofs.Maps.{flat_same}
 use Rattle.laws.proofs.Openings.{pairs_open}
 use Rattle.laws.proofs.Reconstruction.{pairs_reconstruct}
-use Rattle.model.specs.Steps.{closed_by, opened_by, recede, regrown_by, shrink, swell, the_first, the_second}
+use Rattle.model.specs.ByElement.{closing_by, opening_by, reconstruction_by, shrink, shrink_inside, swell}
+use Rattle.runs.proofs.Parts.{the_first, the_second}
 
 -- sheets of any sides make sheets of these sides, and cuts make the cut
 pub record CutMaking (made : Making) : Type 0 where
   pub sheet : (w h : ℕ) (f g : List ℕ) → length f ≡ w * h → length g ≡ w * h → length (made w h f g) ≡ w * h
   pub cuts : (w h a : ℕ) (f g : List ℕ) → 1 ≤ a → length f ≡ w * h → length g ≡ w * h → made w h (cut a f) (cut a g) ≡ cut a (made w h f g)
 
-pub made_topped : (made : Making) → CutMaking made → (top w h : ℕ) (f g : List ℕ) → length f ≡ w * h → length g ≡ w * h → Topped top f → Topped top g → Topped top (made w h f g)
+pub made_topped : (made : Making) → CutMaking made → (top w h : ℕ) (f g : List ℕ) → length f ≡ w * h → length g ≡ w * h → HeightsAtMost top f → HeightsAtMost top g → HeightsAtMost top (made w h f g)
 made_topped made M top w h f g one other s t = sheet_topped top (made w h f g) (λ j.
     sym (M.cuts w h (suc top) f g (omega arith) one other)
     ∙ (λ i. made w h (cuts_alike top f s j i) (cuts_alike top g t j i))
@@ -43,11 +44,11 @@ pub element_making : (op : Operation) (e : Element) → CutMaking (by_element op
 element_making Erosion e = flat_making (λ w h. eroded w h (offsets e)) (λ w h. (erosion_and_dilation_are_pair e w h).shrinks)
 element_making Dilation e = flat_making (λ w h. dilated w h (offsets e)) (λ w h. (erosion_and_dilation_are_pair e w h).swells)
 
-pub opening_making : (e : Element) (size : ℕ) → CutMaking (opened_by e size)
+pub opening_making : (e : Element) (size : ℕ) → CutMaking (opening_by e size)
 opening_making e size = flat_making (λ w h. opening (shrink e w h) (swell e w h) size) (λ w h. (pairs_open (w * h) (shrink e w h) (swell e w h) (erosion_and_dilation_are_pair e w h)).flat size)
 
-pub closing_making : (e : Element) (size : ℕ) → CutMaking (closed_by e size)
-closing_making e size = flat_making (λ w h. closing (swell e w h) (recede e w h) size) (λ w h. (pairs_close (w * h) (swell e w h) (recede e w h) (dilation_and_inner_erosion_close e w h)).flat size)
+pub closing_making : (e : Element) (size : ℕ) → CutMaking (closing_by e size)
+closing_making e size = flat_making (λ w h. closing (swell e w h) (shrink_inside e w h) size) (λ w h. (pairs_close (w * h) (swell e w h) (shrink_inside e w h) (dilation_and_erosion_inside_close e w h)).flat size)
 
 pub meet_making : CutMaking (λ w h. met)
 meet_making = record {
@@ -64,7 +65,7 @@ join_making = record {
 pub regrow_laws : (e : Element) (w h : ℕ) → ReconstructionLaws (w * h) (swell e w h)
 regrow_laws e w h = pairs_reconstruct (w * h) (shrink e w h) (swell e w h) (erosion_and_dilation_are_pair e w h)
 
-pub regrow_making : (e : Element) → CutMaking (regrown_by e)
+pub regrow_making : (e : Element) → CutMaking (reconstruction_by e)
 regrow_making e = record {
   sheet = λ w h f g one other. (regrow_laws e w h).sheet f g one other;
   cuts = λ w h a f g low one other. (regrow_laws e w h).cuts a f g low one other;

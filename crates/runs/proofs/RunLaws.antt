@@ -1,31 +1,34 @@
 -- The theorems about whole runs. Assumes nothing.
-use Rattle.std.proofs.Common.{◌≡◌, ℕ, ◌+◌, ◌-◌, ◌*◌, ◌≤◌, true, false, ◌&&◌, suc, List, [], ◌∷◌, map, length, eqb, leb, ltb, None, sym, refl, ap, ◌∙◌, subst, arith}
+use Rattle.std.proofs.Common.{◌≡◌, ℕ, ◌+◌, ◌-◌, ◌*◌, ◌≤◌, true, false, ◌&&◌, suc, List, [], ◌∷◌, map, replicate, length, eqb, leb, ltb, None, sym, refl, ap, ◌∙◌, subst, arith}
 use Rattle.std.specs.List.{list_any}
 use Rattle.std.specs.Prelude.{drop, sum}
+use Rattle.std.proofs.lemmas.List.{length-replicate}
 use Rattle.std.proofs.lemmas.Bool.{eq-eqb, le-leb, le-ltb}
 use Rattle.elements.specs.declared.element.Element.{Element}
 use Rattle.limits.specs.Sizes.{lawful_side, lawful_size}
 use Rattle.bench.specs.Model.{sheet_of}
 use Rattle.bench.specs.Calls.{begin_refusal}
 use Rattle.operators.specs.Maps.{times}
+use Rattle.operators.specs.Restoring.{answer_list, written}
 use Rattle.operators.specs.Skeletons.{rebuilt, restored, skeleton}
 use Rattle.laws.specs.Skeletons.{SkeletonLaws}
 use Rattle.operators.specs.Spectra.{spectrum}
-use Rattle.laws.specs.Sums.{Topped}
-use Rattle.laws.proofs.ElementLaws.{dilation_and_inner_erosion_close, erosion_and_dilation_are_pair}
+use Rattle.laws.specs.Sums.{HeightsAtMost}
+use Rattle.laws.proofs.ElementLaws.{dilation_and_erosion_inside_close, erosion_and_dilation_are_pair}
 use Rattle.laws.proofs.Maps.{flat_times, flat_topped}
 use Rattle.laws.proofs.Skeletons.{pairs_restore}
 use Rattle.laws.proofs.Spectra.{pairs_have_spectra}
 use Rattle.model.specs.Calls.{Begin, Skeleton, SkeletonTold, SlipTold, Spectrum, SpectrumTold}
-use Rattle.model.specs.Refusals.{refusal}
-use Rattle.model.specs.Steps.{Bench, Opening, after, answer, opened_bench, recede, shrink, swell, told_by}
-use Rattle.runs.specs.Theorems.{Forgetting, MaskSums, OpenedAlike, Restoring, RunLaws, SkeletonsTellSheets, SpectraTellAreas, in_heights}
-use Rattle.runs.proofs.Accepted.{begin_closed, listing_listed, none_refused, tells_ok}
+use Rattle.model.specs.ByElement.{shrink, shrink_inside, swell}
+use Rattle.model.specs.Steps.{Bench, BenchSizes, after, answer, bench_opened}
+use Rattle.runs.proofs.Parts.{answer_parts, refusal, told_by}
+use Rattle.runs.specs.Theorems.{Forgetting, MaskSums, OpenedAlike, Restoring, RunLaws, SkeletonsTellSheets, SpectraTellAreas, in_heights, reached}
+use Rattle.runs.proofs.Accepted.{begin_closed, depth_listed, none_refused, tells_ok}
 use Rattle.runs.proofs.Reached.{Reached}
 use Rattle.runs.proofs.Runs.{answers_go, as_opened_same, run_goes, run_reached, sides_lawful, start_goes}
 
 -- no cell of a sheet that keeps the top is above a number that is not below it
-none_above : (top : ℕ) (f : List ℕ) → Topped top f → top ≤ 65536 → list_any (ltb 65536) f ≡ false
+none_above : (top : ℕ) (f : List ℕ) → HeightsAtMost top f → top ≤ 65536 → list_any (ltb 65536) f ≡ false
 none_above top [] t low = refl
 none_above top (x ∷ f) t low =
     let first : x ≤ top = t 0 in
@@ -34,22 +37,29 @@ none_above top (x ∷ f) t low =
 pub skeletons_of : (e : Element) (w h : ℕ) → SkeletonLaws (w * h) (shrink e w h) (swell e w h)
 skeletons_of e w h = pairs_restore (w * h) (shrink e w h) (swell e w h) (erosion_and_dilation_are_pair e w h)
 
+-- a list of as many zeros as a sheet of a bench has cells
+abbrev blank : Bench → List ℕ
+blank b = replicate (b.rack.outline.w * b.rack.outline.h) 0
+
+blank_long : (b : Bench) → length (blank b) ≡ b.rack.outline.w * b.rack.outline.h
+blank_long b = length-replicate (b.rack.outline.w * b.rack.outline.h) 0
+
 module _ {X : Type 0} (height : X → ℕ) (top : ℕ) (bounded : (x : X) → height x ≤ top) where
   mask_sums : MaskSums height top
   mask_sums o masks alike calls next =
-      let b = after (opened_bench o) (map (in_heights height) calls) in
-      let g = run_goes height top bounded (opened_bench o) calls (opened_bench o) (λ a. opened_bench (masks a)) (start_goes top o masks alike) in
-      (g.sum, answers_go height top bounded (opened_bench o) next b _ g)
+      let b = reached height o calls in
+      let g = run_goes height top bounded (bench_opened o) calls (bench_opened o) (λ a. bench_opened (masks a)) (start_goes top o masks alike) in
+      (g.sum, answers_go height top bounded (bench_opened o) next b _ g)
 
   restoring : top ≤ 65536 → Restoring height
-  restoring low o calls e depth place len pieces told size within =
-      let b = after (opened_bench o) (map (in_heights height) calls) in
+  restoring low o calls e depth place len pieces told size answer_was work_was within answer_long work_long =
+      let b = reached height o calls in
       let r = run_reached height top bounded o calls in
       let w = b.rack.outline.w in
       let h = b.rack.outline.h in
       let f = sheet_of b.rack place in
-      let ok = tells_ok (refusal {X = ℕ} b.rack b.slate (Skeleton e depth place len)) (told_by b (Skeleton e depth place len)) (SkeletonTold pieces) told in
-      let listed = listing_listed b.rack.outline depth place len _ ok.0 in
+      let ok = tells_ok (refusal b (Skeleton e depth place len)) (told_by b (Skeleton e depth place len)) (SkeletonTold pieces) (sym (answer_parts b (Skeleton e depth place len)) ∙ told) in
+      let listed = depth_listed b.rack.outline depth place len _ ok.0 in
       let long = r.held.sized place listed.filled in
       let laws = skeletons_of e w h in
       let same : skeleton (shrink e w h) (swell e w h) depth f ≡ pieces = cc (ok.1) in
@@ -58,38 +68,39 @@ module _ {X : Type 0} (height : X → ℕ) (top : ℕ) (bounded : (x : X) → he
       ap (λ xs. rebuilt (swell e w h) (w * h) depth xs (depth - size)) (sym same) ∙ laws.rebuilds depth size f long within in
       let topped = flat_topped (w * h) (times size (shrink e w h)) (flat_times (w * h) (shrink e w h) (erosion_and_dilation_are_pair e w h).shrinks size) top f long (r.held.topped place) in
       let sides : (lawful_side w && lawful_side h) ≡ true = subst (λ s. (lawful_side s.0 && lawful_side s.1) ≡ true) (sym r.rack_sizes)
-      (sides_lawful o place (ap (λ s. leb 1 place && leb place s.2) (sym r.rack_sizes) ∙ listed.there)) in (
-        none_refused (lawful_side w && lawful_side h) _ _ sides
-            (none_refused (eqb (w * h) (w * h) && eqb (w * h) (w * h)) _ _ (rw (eq-eqb (w * h) (w * h) refl) refl)
-            (none_refused (lawful_size depth && leb size depth) _ _ (rw (listed.lawful, le-leb size depth within) refl)
-            (none_refused (eqb (length pieces) ((depth + 1) * (w * h))) _ _ (eq-eqb _ _ count)
-            (rw (built, none_above top (times size (shrink e w h) f) topped low) refl)))),
-        ap (times size (swell e w h)) built,
-      )
+      (sides_lawful o place (ap (λ s. leb 1 place && leb place s.2) (sym r.rack_sizes) ∙ listed.there)) in
+      let none = none_refused (lawful_side w && lawful_side h) _ _ sides
+          (none_refused (eqb (length answer_was) (w * h) && eqb (length work_was) (w * h)) _ _ (rw (eq-eqb _ _ answer_long, eq-eqb _ _ work_long) refl)
+          (none_refused (lawful_size depth && leb size depth) _ _ (rw (listed.lawful, le-leb size depth within) refl)
+          (none_refused (eqb (length pieces) ((depth + 1) * (w * h))) _ _ (eq-eqb _ _ count)
+          (rw (built, none_above top (times size (shrink e w h) f) topped low) refl)))) in
+      (none, ap (λ r. written r (restored (swell e w h) (w * h) depth size pieces) answer_was) none ∙ ap (times size (swell e w h)) built)
 
   skeletons_tell : top ≤ 65536 → SkeletonsTellSheets height
   skeletons_tell low o p calls others e depth place other len pieces wide tall one two =
-      let b = after (opened_bench o) (map (in_heights height) calls) in
-      let c = after (opened_bench p) (map (in_heights height) others) in
-      sym (restoring low o calls e depth place len pieces one 0 (omega arith)).1
-      ∙ (λ i. restored (swell e (wide i) (tall i)) (wide i * tall i) depth 0 pieces)
-      ∙ (restoring low p others e depth other len pieces two 0 (omega arith)).1
+      let b = reached height o calls in
+      let c = reached height p others in
+      let first = restoring low o calls e depth place len pieces one 0 (blank b) (blank b) (omega arith) (blank_long b) (blank_long b) in
+      let second = restoring low p others e depth other len pieces two 0 (blank c) (blank c) (omega arith) (blank_long c) (blank_long c) in
+      sym first.1
+      ∙ (λ i. answer_list (swell e (wide i) (tall i)) (wide i) (tall i) depth 0 pieces (replicate (wide i * tall i) 0) (replicate (wide i * tall i) 0))
+      ∙ second.1
 
   spectra_tell : SpectraTellAreas height
   spectra_tell o calls e depth place len entries told =
-      let b = after (opened_bench o) (map (in_heights height) calls) in
+      let b = reached height o calls in
       let r = run_reached height top bounded o calls in
       let w = b.rack.outline.w in
       let h = b.rack.outline.h in
       let f = sheet_of b.rack place in
-      let ok = tells_ok (refusal {X = ℕ} b.rack b.slate (Spectrum e depth place len)) (told_by b (Spectrum e depth place len)) (SpectrumTold entries) told in
-      let listed = listing_listed b.rack.outline depth place len _ ok.0 in
-      let laws = pairs_have_spectra (w * h) (shrink e w h) (swell e w h) (recede e w h) (erosion_and_dilation_are_pair e w h) (dilation_and_inner_erosion_close e w h) in
-      let same : spectrum (shrink e w h) (swell e w h) (recede e w h) depth f ≡ entries = cc (ok.1) in
+      let ok = tells_ok (refusal b (Spectrum e depth place len)) (told_by b (Spectrum e depth place len)) (SpectrumTold entries) (sym (answer_parts b (Spectrum e depth place len)) ∙ told) in
+      let listed = depth_listed b.rack.outline depth place len _ ok.0 in
+      let laws = pairs_have_spectra (w * h) (shrink e w h) (swell e w h) (shrink_inside e w h) (erosion_and_dilation_are_pair e w h) (dilation_and_erosion_inside_close e w h) in
+      let same : spectrum (shrink e w h) (swell e w h) (shrink_inside e w h) depth f ≡ entries = cc (ok.1) in
       ap (λ xs. sum (drop depth xs)) (sym same) ∙ laws.total depth f (r.held.sized place listed.filled)
 
   -- where no visit is open the bench is as it opened
-  closed_same : (o p : Opening) → OpenedAlike o p → (b c : Bench) → Reached top (opened_bench o) b → Reached top (opened_bench p) c →
+  closed_same : (o p : BenchSizes) → OpenedAlike o p → (b c : Bench) → Reached top (bench_opened o) b → Reached top (bench_opened p) c →
       b.rack.outline.visit ≡ None → b.slate.outline.visit ≡ None → c.rack.outline.visit ≡ None → c.slate.outline.visit ≡ None → b ≡ c
   closed_same o p alike b c r s br bs cr cs = λ i. record {
     rack = as_opened_same b.rack c.rack (r.rack_closed br) (s.rack_closed cr) (r.rack_sizes ∙ alike.rack ∙ sym s.rack_sizes) i;
@@ -98,13 +109,13 @@ module _ {X : Type 0} (height : X → ℕ) (top : ℕ) (bounded : (x : X) → he
 
   forgetting : Forgetting height
   forgetting o p alike before others flat one two calls next =
-      let b = after (opened_bench o) (map (in_heights height) before) in
-      let c = after (opened_bench p) (map (in_heights height) others) in
+      let b = reached height o before in
+      let c = reached height p others in
       let first = tells_ok (begin_refusal b.rack.outline b.slate.outline flat) (SlipTold flat) (SlipTold flat) one in
       let second = tells_ok (begin_refusal c.rack.outline c.slate.outline flat) (SlipTold flat) (SlipTold flat) two in
       let open_none = begin_closed b.rack.outline b.slate.outline flat first.0 in
       let other_none = begin_closed c.rack.outline c.slate.outline flat second.0 in
-      ap (λ x. answer (after x (Begin flat ∷ map (in_heights height) calls)) (in_heights height next))
+      ap (λ x. answer (after x (map (in_heights height) (Begin flat ∷ calls))) (in_heights height next))
       (closed_same o p alike b c (run_reached height top bounded o before) (run_reached height top bounded p others) open_none.0 open_none.1 other_none.0 other_none.1)
 
   pub run_laws : top ≤ 65536 → RunLaws height top
@@ -114,5 +125,6 @@ module _ {X : Type 0} (height : X → ℕ) (top : ℕ) (bounded : (x : X) → he
     skeletons = skeletons_tell low;
     spectra = spectra_tell;
     weights = λ o calls place. (run_reached height top bounded o calls).tallies place;
+    places = λ o calls place. let r = run_reached height top bounded o calls in (r.rack_filled place, r.slate_filled place);
     forgetting = forgetting;
   }

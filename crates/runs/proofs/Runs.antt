@@ -1,17 +1,17 @@
 -- Whole runs on a bench and on those of the masks, from benches opened alike. Assumes nothing.
-use Rattle.std.proofs.Common.{◌≡◌, ℕ, ◌≤◌, true, ◌&&◌, List, [], ◌∷◌, map, Some, None, Option, sym, refl, ap, ◌∙◌, subst, leb, arith}
+use Rattle.std.proofs.Common.{◌≡◌, ℕ, ◌≤◌, true, ◌&&◌, List, [], ◌∷◌, map, Some, None, Option, sym, refl, ap, ◌∙◌, subst, leb, arith, Result, is_some}
 use Rattle.std.proofs.lemmas.Bool.{and_parts, leb-true}
 use Rattle.limits.specs.declared.fault.Fault.{Fault}
 use Rattle.limits.specs.Faults.{tells, unless}
 use Rattle.limits.specs.Sizes.{lawful_side, sizes_refusal}
-use Rattle.bench.specs.Model.{State, is_place}
+use Rattle.bench.specs.Model.{State, Tally, is_place}
 use Rattle.bench.specs.Calls.{opened}
 use Rattle.model.specs.Calls.{Call, Told}
-use Rattle.model.specs.Refusals.{refusal}
-use Rattle.model.specs.Steps.{Bench, Opening, after, answer, leaves, opened_bench, step, told_by}
-use Rattle.model.specs.Tallies.{tally_of}
+use Rattle.model.specs.Steps.{Bench, BenchSizes, after, answer, bench_opened, step}
+use Rattle.model.specs.Weights.{tally_of}
+use Rattle.runs.proofs.Parts.{answer_parts, step_parts, leaves, refusal, told_by}
 use Rattle.runs.specs.Sums.{AnswerSum, BenchSum, ToldSum}
-use Rattle.runs.specs.Theorems.{OpenedAlike, WithinWeight, cut_at, in_heights, sizes_of}
+use Rattle.runs.specs.Theorems.{OpenedAlike, WithinWeight, cut_at, in_heights, reached, sizes_of}
 use Rattle.runs.proofs.Accepted.{passed}
 use Rattle.runs.proofs.Calls.{Goes, leaves_goes, refused_alike, told_sum}
 use Rattle.runs.proofs.Reached.{AsOpened, Reached, none_within}
@@ -34,43 +34,49 @@ answer_kept top t ts None os same go = (ts, (λ a low. ap (λ o. tells o (ts a))
 answer_kept top t ts (Some fault) os same go = λ a low. ap (λ o. tells o (ts a)) (same a low)
 
 module _ {X : Type 0} (height : X → ℕ) (top : ℕ) (bounded : (x : X) → height x ≤ top) (start : Bench) where
-  pub run_goes : (calls : List (Call X)) (b : Bench) (bs : ℕ → Bench) → Goes top start b bs → Goes top start (after b (map (in_heights height) calls)) (λ a. after (bs a) (map (cut_at height a) calls))
-  run_goes [] b bs g = g
-  run_goes (c ∷ calls) b bs g = run_goes calls (step b (in_heights height c)) (λ a. step (bs a) (cut_at height a c))
+  step_goes : (c : Call X) (b : Bench) (bs : ℕ → Bench) → Goes top start b bs → Goes top start (step b (in_heights height c)) (λ a. step (bs a) (cut_at height a c))
+  step_goes c b bs g =
+      subst (λ (x : Bench × (ℕ → Bench)). Goes top start x.0 x.1) (λ i. (sym (step_parts b (in_heights height c)) i, λ a. sym (step_parts (bs a) (cut_at height a c)) i))
       (step_kept top start b (leaves b (in_heights height c)) bs (λ a. leaves (bs a) (cut_at height a c)) g
-      (refusal b.rack b.slate (in_heights height c)) (λ a. refusal (bs a).rack (bs a).slate (cut_at height a c))
+      (refusal b (in_heights height c)) (λ a. refusal (bs a) (cut_at height a c))
       (refused_alike height top bounded start b bs g c) (leaves_goes height top bounded start b bs g c))
 
+  pub run_goes : (calls : List (Call X)) (b : Bench) (bs : ℕ → Bench) → Goes top start b bs → Goes top start (after b (map (in_heights height) calls)) (λ a. after (bs a) (map (cut_at height a) calls))
+  run_goes [] b bs g = g
+  run_goes (c ∷ calls) b bs g = run_goes calls (step b (in_heights height c)) (λ a. step (bs a) (cut_at height a c)) (step_goes c b bs g)
+
   pub answers_go : (c : Call X) (b : Bench) (bs : ℕ → Bench) → Goes top start b bs → AnswerSum top (answer b (in_heights height c)) (λ a. answer (bs a) (cut_at height a c))
-  answers_go c b bs g = answer_kept top (told_by b (in_heights height c)) (λ a. told_by (bs a) (cut_at height a c))
-      (refusal b.rack b.slate (in_heights height c)) (λ a. refusal (bs a).rack (bs a).slate (cut_at height a c))
-      (refused_alike height top bounded start b bs g c) (told_sum height top bounded start b bs g c)
+  answers_go c b bs g =
+      subst (λ (x : Result Told Fault × (ℕ → Result Told Fault)). AnswerSum top x.0 x.1) (λ i. (sym (answer_parts b (in_heights height c)) i, λ a. sym (answer_parts (bs a) (cut_at height a c)) i))
+      (answer_kept top (told_by b (in_heights height c)) (λ a. told_by (bs a) (cut_at height a c))
+      (refusal b (in_heights height c)) (λ a. refusal (bs a) (cut_at height a c))
+      (refused_alike height top bounded start b bs g c) (told_sum height top bounded start b bs g c))
 
 -- a rack or a slate opened with any sizes is as it opened
 opened_as : {C : Type 0} (o : Option Fault) (w h places : ℕ) → AsOpened {C = C} (unless o (opened w h places) (opened 0 0 0))
 opened_as None w h places = refl
 opened_as (Some fault) w h places = refl
 
-pub rack_as_opened : (o : Opening) → AsOpened (opened_bench o).rack
+pub rack_as_opened : (o : BenchSizes) → AsOpened (bench_opened o).rack
 rack_as_opened o = opened_as (sizes_refusal 2 o.rack.w o.rack.h o.rack.places o.rack.memory) o.rack.w o.rack.h o.rack.places
 
-pub slate_as_opened : (o : Opening) → AsOpened (opened_bench o).slate
+pub slate_as_opened : (o : BenchSizes) → AsOpened (bench_opened o).slate
 slate_as_opened o = opened_as (sizes_refusal 0 o.slate.w o.slate.h o.slate.places o.slate.memory) o.slate.w o.slate.h o.slate.places
 
 -- two of the same sizes that are as they opened are the same
 pub as_opened_same : {C : Type 0} (s t : State C) → AsOpened s → AsOpened t → sizes_of s.outline ≡ sizes_of t.outline → s ≡ t
 as_opened_same s t one other sizes = one ∙ (λ i. opened (sizes i).0 (sizes i).1 (sizes i).2) ∙ sym other
 
-pub alike_same : (o p : Opening) → OpenedAlike o p → opened_bench o ≡ opened_bench p
+pub alike_same : (o p : BenchSizes) → OpenedAlike o p → bench_opened o ≡ bench_opened p
 alike_same o p alike = λ i. record {
-  rack = as_opened_same (opened_bench o).rack (opened_bench p).rack (rack_as_opened o) (rack_as_opened p) alike.rack i;
-  slate = as_opened_same (opened_bench o).slate (opened_bench p).slate (slate_as_opened o) (slate_as_opened p) alike.slate i;
+  rack = as_opened_same (bench_opened o).rack (bench_opened p).rack (rack_as_opened o) (rack_as_opened p) alike.rack i;
+  slate = as_opened_same (bench_opened o).slate (bench_opened p).slate (slate_as_opened o) (slate_as_opened p) alike.slate i;
 }
 
 -- at the start of a run
-pub start_goes : (top : ℕ) (o : Opening) (masks : ℕ → Opening) → ((a : ℕ) → OpenedAlike (masks a) o) → Goes top (opened_bench o) (opened_bench o) (λ a. opened_bench (masks a))
+pub start_goes : (top : ℕ) (o : BenchSizes) (masks : ℕ → BenchSizes) → ((a : ℕ) → 1 ≤ a → OpenedAlike (masks a) o) → Goes top (bench_opened o) (bench_opened o) (λ a. bench_opened (masks a))
 start_goes top o masks alike = record {
-  sum = bench_sum_same top (opened_bench o) (λ a. opened_bench o) (λ a. opened_bench (masks a)) (λ a low. sym (alike_same (masks a) o (alike a)))
+  sum = bench_sum_same top (bench_opened o) (λ a. bench_opened o) (λ a. bench_opened (masks a)) (λ a low. sym (alike_same (masks a) o (alike a low)))
       (subst (λ b. BenchSum top b (λ a. b)) (λ i. record { rack = sym (rack_as_opened o) i; slate = sym (slate_as_opened o) i }) (fresh_sum top _ _ _ _ _ _));
   reached = record {
     rack_sizes = refl;
@@ -79,16 +85,18 @@ start_goes top o masks alike = record {
     slate_closed = λ closed. slate_as_opened o;
     held = subst (SheetsHeld top) (sym (rack_as_opened o)) (opened_held top _ _ _);
     tallies = λ k. subst (λ s. WithinWeight top (tally_of s k)) (sym (slate_as_opened o)) (none_within top);
+    rack_filled = λ k. subst (λ (s : State (List ℕ)). s.outline.filled k ≡ is_some (s.content k)) (sym (rack_as_opened o)) refl;
+    slate_filled = λ k. subst (λ (s : State Tally). s.outline.filled k ≡ is_some (s.content k)) (sym (slate_as_opened o)) refl;
   };
 }
 
 -- a bench that a run reaches
-pub run_reached : {X : Type 0} (height : X → ℕ) (top : ℕ) → ((x : X) → height x ≤ top) → (o : Opening) (calls : List (Call X)) → Reached top (opened_bench o) (after (opened_bench o) (map (in_heights height) calls))
+pub run_reached : {X : Type 0} (height : X → ℕ) (top : ℕ) → ((x : X) → height x ≤ top) → (o : BenchSizes) (calls : List (Call X)) → Reached top (bench_opened o) (reached height o calls)
 run_reached height top bounded o calls =
-    (run_goes height top bounded (opened_bench o) calls (opened_bench o) (λ a. opened_bench o) (start_goes top o (λ a. o) (λ a. record { rack = refl; slate = refl }))).reached
+    (run_goes height top bounded (bench_opened o) calls (bench_opened o) (λ a. bench_opened o) (start_goes top o (λ a. o) (λ a low. record { rack = refl; slate = refl }))).reached
 
 -- a rack with a place has lawful sides
-pub sides_lawful : (o : Opening) (k : ℕ) → is_place (opened_bench o).rack.outline.places k ≡ true → (lawful_side (opened_bench o).rack.outline.w && lawful_side (opened_bench o).rack.outline.h) ≡ true
+pub sides_lawful : (o : BenchSizes) (k : ℕ) → is_place (bench_opened o).rack.outline.places k ≡ true → (lawful_side (bench_opened o).rack.outline.w && lawful_side (bench_opened o).rack.outline.h) ≡ true
 sides_lawful o k = lawful (sizes_refusal 2 o.rack.w o.rack.h o.rack.places o.rack.memory) (λ none. (passed (lawful_side o.rack.w && lawful_side o.rack.h) _ _ none).0)
   where
     lawful : (r : Option Fault) → (r ≡ None → (lawful_side o.rack.w && lawful_side o.rack.h) ≡ true) →

@@ -4,28 +4,29 @@ use Rattle.std.proofs.lemmas.Bool.{false≢true}
 use Rattle.morphology.specs.Cells.{cut}
 use Rattle.bench.specs.Model.{State, Tally, sheet_of}
 use Rattle.bench.specs.Calls.{Making, ended, opened, stored, visited}
-use Rattle.laws.specs.Sums.{Topped}
+use Rattle.laws.specs.Sums.{HeightsAtMost}
 use Rattle.operators.specs.Tallies.{differed}
-use Rattle.laws.proofs.Sums.{list_over_none, list_over_same}
+use Rattle.laws.proofs.Sums.{list_fold_none, list_fold_same}
 use Rattle.laws.proofs.SumsOfCuts.{differed_over_cuts}
-use Rattle.model.specs.Steps.{Bench, made_of, with_sheet, with_tally}
+use Rattle.model.specs.Steps.{Bench}
+use Rattle.model.specs.Weights.{tally_of}
+use Rattle.runs.proofs.Parts.{difference_of, made_of, with_sheet, with_tally}
 use Rattle.runs.specs.Sums.{BenchSum, TallySum}
-use Rattle.model.specs.Tallies.{difference, tally_of}
 use Rattle.runs.proofs.Makings.{CutMaking, made_topped}
 
 -- each filled place of a rack holds a sheet of its sides, and no place one that rises above the top
 pub record SheetsHeld (top : ℕ) (s : State (List ℕ)) : Type 0 where
   pub sized : (k : ℕ) → s.outline.filled k ≡ true → length (sheet_of s k) ≡ s.outline.w * s.outline.h
-  pub topped : (k : ℕ) → Topped top (sheet_of s k)
+  pub topped : (k : ℕ) → HeightsAtMost top (sheet_of s k)
 
-pub stored_held : (top : ℕ) (s : State (List ℕ)) (k : ℕ) (f : List ℕ) → SheetsHeld top s → length f ≡ s.outline.w * s.outline.h → Topped top f → SheetsHeld top (stored s k f)
+pub stored_held : (top : ℕ) (s : State (List ℕ)) (k : ℕ) (f : List ℕ) → SheetsHeld top s → length f ≡ s.outline.w * s.outline.h → HeightsAtMost top f → SheetsHeld top (stored s k f)
 stored_held top s k f held long t = record { sized = λ j filled. sized_at (eqb j k) j filled; topped = λ j. topped_at (eqb j k) j }
   where
     sized_at : (here : Bool) (j : ℕ) → cond here true (s.outline.filled j) ≡ true → length (unwrap_or (cond here (Some f) (s.content j)) []) ≡ s.outline.w * s.outline.h
     sized_at true j filled = long
     sized_at false j filled = held.sized j filled
 
-    topped_at : (here : Bool) (j : ℕ) → Topped top (unwrap_or (cond here (Some f) (s.content j)) [])
+    topped_at : (here : Bool) (j : ℕ) → HeightsAtMost top (unwrap_or (cond here (Some f) (s.content j)) [])
     topped_at true j = t
     topped_at false j = held.topped j
 
@@ -37,12 +38,12 @@ abbrev no_tally : Tally
 no_tally = record { cells = []; weight = 0 }
 
 no_tally_sum : (top : ℕ) → TallySum top no_tally (λ a. no_tally)
-no_tally_sum top = record { weight = λ a low. refl; cells = list_over_none ◌+ℤ◌ (pos 0) refl top }
+no_tally_sum top = record { weight = λ a low. refl; cells = list_fold_none ◌+ℤ◌ (pos 0) refl top }
 
 tally_sum_same : (top : ℕ) (t : Tally) (ts us : ℕ → Tally) → ((a : ℕ) → 1 ≤ a → ts a ≡ us a) → TallySum top t ts → TallySum top t us
 tally_sum_same top t ts us same s = record {
   weight = λ a low. ap (λ u. u.weight) (sym (same a low)) ∙ s.weight a low;
-  cells = list_over_same ◌+ℤ◌ (pos 0) top t.cells (λ a. (ts a).cells) (λ a. (us a).cells) (λ a low. ap (λ u. u.cells) (same a low)) s.cells;
+  cells = list_fold_same ◌+ℤ◌ (pos 0) top t.cells (λ a. (ts a).cells) (λ a. (us a).cells) (λ a low. ap (λ u. u.cells) (same a low)) s.cells;
 }
 
 -- only the masks from height 1 on matter
@@ -112,7 +113,7 @@ module _ (top : ℕ) (b : Bench) (bs : ℕ → Bench) (s : BenchSum top b bs) wh
       pub made_sized : length (made_of made b one other) ≡ b.rack.outline.w * b.rack.outline.h
       made_sized = M.sheet b.rack.outline.w b.rack.outline.h (sheet_of b.rack one) (sheet_of b.rack other) (held.sized one one_filled) (held.sized other other_filled)
 
-      pub made_of_topped : Topped top (made_of made b one other)
+      pub made_of_topped : HeightsAtMost top (made_of made b one other)
       made_of_topped = made_topped made M top b.rack.outline.w b.rack.outline.h (sheet_of b.rack one) (sheet_of b.rack other) (held.sized one one_filled) (held.sized other other_filled) (held.topped one) (held.topped other)
 
       pub made_cut : (a : ℕ) → 1 ≤ a → made_of made (bs a) one other ≡ cut a (made_of made b one other)
@@ -121,10 +122,10 @@ module _ (top : ℕ) (b : Bench) (bs : ℕ → Bench) (s : BenchSum top b bs) wh
           ∙ M.cuts b.rack.outline.w b.rack.outline.h a (sheet_of b.rack one) (sheet_of b.rack other) low (held.sized one one_filled) (held.sized other other_filled)
 
     -- the difference of two sheets so made
-    pub difference_sum : (more less : Making) → CutMaking more → CutMaking less → TallySum top (difference (made_of more b one other) (made_of less b one other)) (λ a. difference (made_of more (bs a) one other) (made_of less (bs a) one other))
+    pub difference_sum : (more less : Making) → CutMaking more → CutMaking less → TallySum top (difference_of more less b one other) (λ a. difference_of more less (bs a) one other)
     difference_sum more less M L = record {
       weight = λ a low. refl;
-      cells = list_over_same ◌+ℤ◌ (pos 0) top _ _ _
+      cells = list_fold_same ◌+ℤ◌ (pos 0) top _ _ _
           (λ a low. (λ i. differed (sym (made_cut more M a low) i) (sym (made_cut less L a low) i)))
           (differed_over_cuts top (made_of more b one other) (made_of less b one other) (made_of_topped more M) (made_of_topped less L));
     }

@@ -7,12 +7,12 @@ use Rattle.std.proofs.lemmas.Int.{ints, unsigned_abs-mul}
 use Rattle.std.proofs.lemmas.List.{get_or_past}
 use Rattle.std.proofs.lemmas.Nat.{mul-le}
 use Rattle.bench.specs.Model.{Tally}
-use Rattle.laws.specs.Sums.{Topped}
+use Rattle.laws.specs.Sums.{HeightsAtMost}
 use Rattle.laws.proofs.Cells.{get_or-shorter, length-shorter}
 use Rattle.laws.proofs.Cuts.{topped_rest}
 use Rattle.laws.proofs.Sums.{get_or-kept}
 use Rattle.operators.specs.Tallies.{added, differed}
-use Rattle.model.specs.Tallies.{difference, multiple, sum_of_tallies}
+use Rattle.model.specs.Weights.{difference, multiple, sum_of_tallies}
 use Rattle.runs.specs.Theorems.{WithinWeight}
 
 size_of_difference : (top x y : ℕ) → x ≤ top → y ≤ top → unsigned_abs (pos x -ℤ pos y) ≤ top
@@ -21,10 +21,10 @@ size_of_difference top x y one other = omega (arith, ints)
 size_of_sum : (x y : ℤ) → unsigned_abs (x +ℤ y) ≤ unsigned_abs x + unsigned_abs y
 size_of_sum x y = omega (arith, ints)
 
-pub difference_within : (top : ℕ) (f g : List ℕ) → Topped top f → Topped top g → WithinWeight top (difference f g)
+pub difference_within : (top : ℕ) (f g : List ℕ) → HeightsAtMost top f → HeightsAtMost top g → WithinWeight top (difference (differed f g))
 difference_within top f g s t = record { weight = omega arith; cells = λ k. rw one-mul (at f g s t k) }
   where
-    at : (f g : List ℕ) → Topped top f → Topped top g → (k : ℕ) → unsigned_abs (get_or (differed f g) k (pos 0)) ≤ top
+    at : (f g : List ℕ) → HeightsAtMost top f → HeightsAtMost top g → (k : ℕ) → unsigned_abs (get_or (differed f g) k (pos 0)) ≤ top
     at [] g s t k = omega arith
     at (x ∷ f) [] s t k = omega arith
     at (x ∷ f) (y ∷ g) s t zero = size_of_difference top x y (s 0) (t 0)

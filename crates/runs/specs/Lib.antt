@@ -1,3 +1,3 @@
 pub mod Sums
+pub mod Conditions
 pub mod Theorems
-pub mod Coded

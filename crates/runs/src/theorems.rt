@@ -1,19 +1,22 @@
-// The theorems about every run of calls.
+// The theorems about the calls on a bench, and about every run of them.
 ghost use Rattle.std.specs.Prelude.{ℕ, ◌≤◌};
-ghost use Rattle.runs.specs.Coded.{CodedCallsAreSteps};
+ghost use Rattle.runs.specs.Conditions.{FirstByNumber, NumbersAscend, RefusalsLeaveTheBench};
 ghost use Rattle.runs.specs.Theorems.{HeightsTo, RunLaws};
 
 use levels::level::Level;
 
-/// What holds of every run of calls on a bench of a level kind: mask sums, restoring and forgetting.
-pub fn runs_of_a_kind<L: Level>()
-    ensures { RunLaws L.height L.top }
+/// Each refusal has its condition. Of the refusals whose conditions hold a call tells the one with the smallest number, and it is
+/// accepted where none holds; a refused call leaves the bench as it was.
+#[tactic(auto, using(crate::proofs::FirstByNumber::numbers_ascend, crate::proofs::FirstByNumber::first_by_number))]
+pub fn refusals_by_number()
+    ensures order { NumbersAscend }
+    ensures refusals { FirstByNumber }
+    ensures bench { RefusalsLeaveTheBench }
 {}
 
-/// The calls that the library has are steps of the model: what their contracts say they leave and tell is what a step does.
-#[tactic(auto, using(crate::proofs::Coded::coded_calls_are_steps))]
-pub fn coded_calls()
-    ensures { CodedCallsAreSteps }
+/// What holds of every run of calls on a bench of a level kind: mask sums, restoring, forgetting and what goes with them.
+pub fn runs_of_a_kind<L: Level>()
+    ensures { RunLaws L.height L.top }
 {}
 
 /// What holds of every run of calls, for every top from 1 to 65,536.

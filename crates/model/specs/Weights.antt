@@ -1,7 +1,7 @@
--- The tallies that calls make, with their weights. No cell exceeds weight × 65,536 in size. Assumes nothing.
+-- The weights of the tallies that calls make. Assumes nothing.
 use Rattle.std.specs.Prelude.{ℕ, ◌+◌, ◌*◌, Bool, [], List, ℤ, nat_le, unsigned_abs, unwrap_or}
 use Rattle.bench.specs.Model.{State, Tally}
-use Rattle.operators.specs.Tallies.{added, differed, scaled}
+use Rattle.operators.specs.Tallies.{added, scaled}
 
 -- the tally in a place of a slate; no cells where the place is empty
 abbrev pub tally_of : State Tally → ℕ → Tally
@@ -11,13 +11,9 @@ tally_of s k = unwrap_or (s.content k) (record { cells = []; weight = 0 })
 abbrev pub lawful_weight : ℕ → Bool
 lawful_weight weight = nat_le weight 1000
 
--- a factor is −100 to 100
-abbrev pub lawful_factor : ℤ → Bool
-lawful_factor factor = nat_le (unsigned_abs factor) 100
-
--- the heights of one sheet minus those of another weigh 1
-abbrev pub difference : List ℕ → List ℕ → Tally
-difference f g = record { cells = differed f g; weight = 1 }
+-- the heights of a sheet minus those of another weigh 1
+abbrev pub difference : List ℤ → Tally
+difference cells = record { cells = cells; weight = 1 }
 
 -- cells and weights are added
 abbrev pub sum_of_tallies : Tally → Tally → Tally

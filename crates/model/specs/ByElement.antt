@@ -1,0 +1,29 @@
+-- What an element makes of sheets of w × h heights. Assumes nothing.
+use Rattle.std.specs.Prelude.{ℕ, List}
+use Rattle.elements.specs.declared.element.Element.{Element}
+use Rattle.elements.specs.Elements.{offsets}
+use Rattle.morphology.specs.Erosion.{dilated, eroded}
+use Rattle.bench.specs.Calls.{Making}
+use Rattle.operators.specs.Closings.{closing, eroded_inside}
+use Rattle.operators.specs.Openings.{opening}
+use Rattle.operators.specs.Reconstruction.{reconstructed}
+
+-- Its erosion and dilation, and the erosion of closings, which skips offsets that fall outside.
+abbrev pub shrink : Element → ℕ → ℕ → List ℕ → List ℕ
+shrink e w h = eroded w h (offsets e)
+
+abbrev pub swell : Element → ℕ → ℕ → List ℕ → List ℕ
+swell e w h = dilated w h (offsets e)
+
+abbrev pub shrink_inside : Element → ℕ → ℕ → List ℕ → List ℕ
+shrink_inside e w h = eroded_inside w h (offsets e)
+
+-- Its opening and closing of a size: of two sheets only the first is read. And its reconstruction, from a marker and an upper sheet.
+abbrev pub opening_by : Element → ℕ → Making
+opening_by e size w h f g = opening (shrink e w h) (swell e w h) size f
+
+abbrev pub closing_by : Element → ℕ → Making
+closing_by e size w h f g = closing (swell e w h) (shrink_inside e w h) size f
+
+abbrev pub reconstruction_by : Element → Making
+reconstruction_by e w h marker upper = reconstructed (swell e w h) marker upper

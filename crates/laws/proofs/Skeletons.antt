@@ -1,8 +1,9 @@
 -- The laws of skeletons, from those of a pair. Assumes nothing.
-use Rattle.std.proofs.Common.{◌≡◌, ℕ, zero, suc, ◌+◌, ◌-◌, ◌*◌, ◌<◌, ◌≤◌, List, [], ◌∷◌, ◌++◌, length, take, sym, refl, ap, ◌∙◌, inl, inr, append_assoc, add-mul, one-mul, arith}
+use Rattle.std.proofs.Common.{add-one, get_or, ◌≡◌, ℕ, zero, suc, ◌+◌, ◌-◌, ◌*◌, ◌<◌, ◌≤◌, List, [], ◌∷◌, ◌++◌, length, take, sym, refl, ap, ◌∙◌, inl, inr, append_assoc, add-mul, one-mul, arith}
 use Rattle.std.proofs.Math.Nat.{suc-mul}
+use Rattle.std.proofs.lemmas.Nat.{mul-le}
 use Rattle.std.proofs.lemmas.Bool.{cases_lt}
-use Rattle.std.proofs.lemmas.List.{append-nil, drop_at, length-append, take_at}
+use Rattle.std.proofs.lemmas.List.{length-drop, length-take, append-nil, drop_at, length-append, take_at}
 use Rattle.morphology.specs.Cells.{cut}
 use Rattle.operators.specs.Maps.{times}
 use Rattle.laws.specs.Maps.{Below}
@@ -11,7 +12,7 @@ use Rattle.laws.specs.Pairs.{PairLaws}
 use Rattle.operators.specs.Skeletons.{in_a_row, minus, piece_of, plus, rebuilt, skeleton, skeleton_piece}
 use Rattle.laws.specs.Skeletons.{PairsRestore}
 use Rattle.laws.specs.Sums.{ListSum, HeightsAtMost}
-use Rattle.laws.proofs.Cells.{length-cell_by_cell}
+use Rattle.laws.proofs.Cells.{get_or-cell_by_cell, length-cell_by_cell}
 use Rattle.laws.proofs.Maps.{flat_topped}
 use Rattle.laws.proofs.Openings.{opening_flat, shrunk}
 use Rattle.laws.proofs.Sums.{list_fold_append, list_fold_none, list_fold_same}
@@ -112,10 +113,31 @@ module _ (cells : ℕ) (shrink swell : List ℕ → List ℕ) (laws : PairLaws c
           (λ a low. (λ i. minus (sym (e_cut a low n) i) (sym (ap (opening shrink swell 1) (e_cut a low n) ∙ flat.cuts a (e n) low (sized n)) i)))
           (minus_over_cuts top (e n) (opening shrink swell 1 (e n)) (e_topped n) (flat_topped cells (opening shrink swell 1) flat top (e n) (sized n) (e_topped n)))
 
+-- what is rebuilt of any list of pieces: sheets, of which none is above the next
+module _ (cells : ℕ) (shrink swell : List ℕ → List ℕ) (laws : PairLaws cells shrink swell) (depth : ℕ) (pieces : List ℕ) (long : length pieces ≡ (depth + 1) * cells) where
+  piece_long : (k : ℕ) → k ≤ depth → length (piece_of cells pieces k) ≡ cells
+  piece_long k few = simp (length-take, length-drop, long) (omega (arith, mul-le (k + 1) cells (depth + 1) cells (omega arith) (omega arith), add-mul k 1 cells, one-mul cells))
+
+  rebuilt_long : (n : ℕ) → n ≤ depth → length (rebuilt swell cells depth pieces n) ≡ cells
+  rebuilt_long zero few = piece_long depth (omega arith)
+  rebuilt_long (suc n) few =
+      let swollen = laws.swells.sheet (rebuilt swell cells depth pieces n) (rebuilt_long n (omega arith)) in
+      length-cell_by_cell ◌+◌ (swell (rebuilt swell cells depth pieces n)) (piece_of cells pieces (depth - suc n)) (swollen ∙ sym (piece_long (depth - suc n) (omega arith))) ∙ swollen
+
+  rebuilt_rises : (n : ℕ) → n < depth → Below (rebuilt swell cells depth pieces n) (rebuilt swell cells depth pieces (n + 1))
+  rebuilt_rises n few = rw add-one (λ p.
+      let before = rebuilt swell cells depth pieces n in
+      let sized = rebuilt_long n (omega arith) in
+      let piece = piece_of cells pieces (depth - suc n) in
+      let grown : get_or before p 0 ≤ get_or (swell before) p 0 = laws.above before sized p in
+      let sum = get_or-cell_by_cell ◌+◌ (swell before) piece p 0 0 (laws.swells.sheet before sized ∙ sym (piece_long (depth - suc n) (omega arith))) refl in
+      omega arith)
+
 pub pairs_restore : PairsRestore
 pairs_restore cells shrink swell laws = record {
   long = λ depth f long. skeleton_long cells shrink swell laws depth f long;
   rebuilds = λ depth k f long low. skeleton_rebuilds cells shrink swell laws depth f long k low;
   restores = λ depth k f long low. ap (times k swell) (skeleton_rebuilds cells shrink swell laws depth f long k low);
+  rises = λ depth n pieces long few. rebuilt_rises cells shrink swell laws depth pieces long n few;
   sums = λ top depth f long t. skeleton_over_cuts cells shrink swell laws depth f long top t;
 }

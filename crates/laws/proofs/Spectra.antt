@@ -1,8 +1,9 @@
 -- The laws of pattern spectra, from those of openings and closings. Assumes nothing.
-use Rattle.std.proofs.Common.{◌≡◌, ℕ, zero, suc, ◌+◌, ◌-◌, ◌≤◌, List, [], ◌∷◌, ◌++◌, map, length, drop, sym, refl, ap, ◌∙◌, add-one, add-zero, zero-add, arith}
+use Rattle.std.proofs.Common.{◌≡◌, ℕ, zero, suc, ◌+◌, ◌-◌, ◌≤◌, List, [], ◌∷◌, ◌++◌, map, length, take, drop, sym, refl, ap, ◌∙◌, add-one, add-zero, zero-add, arith}
 use Rattle.std.specs.Prelude.{sum}
 use Rattle.std.specs.List.{range_with_len}
-use Rattle.std.proofs.lemmas.List.{drop_at, length-append, length-map}
+use Rattle.std.proofs.lemmas.List.Sums.{fold_push}
+use Rattle.std.proofs.lemmas.List.{take-append-le, drop_at, length-append, length-map}
 use Rattle.std.proofs.lemmas.List.FromFn.{length-map-range_with_len}
 use Rattle.morphology.specs.Cells.{cut}
 use Rattle.morphology.specs.Sheets.{area}
@@ -27,18 +28,22 @@ sum_to_minus : (top : ℕ) (f g : ℕ → ℕ) → ((a : ℕ) → 1 ≤ a → g 
 sum_to_minus zero f g below = refl
 sum_to_minus (suc a) f g below = let h = sum_to_minus a f g below in let one = below (suc a) (omega arith) in omega arith
 
--- differences of numbers that fall, one after the other, and the last of these numbers
+-- differences of numbers that fall, one after the other, up to the last of these numbers
 telescope : (area_at : ℕ → ℕ) → ((n : ℕ) → area_at (n + 1) ≤ area_at n) → (from n : ℕ)
-    → sum (map (λ k. area_at k - area_at (k + 1)) (range_with_len from n) ++ area_at (from + n) ∷ []) ≡ area_at from
+    → sum (map (λ k. area_at k - area_at (k + 1)) (range_with_len from n)) + area_at (from + n) ≡ area_at from
 telescope area_at falls from zero = rw (add-zero, zero-add) refl
 telescope area_at falls from (suc n) =
     let one = falls from in
     let place : (from + 1) + n ≡ from + suc n = omega arith in
     let rest = telescope area_at falls (from + 1) n in
-    area-cons (area_at from - area_at (from + 1)) (map (λ k. area_at k - area_at (k + 1)) (range_with_len (from + 1) n) ++ area_at (from + suc n) ∷ [])
-    ∙ ap (λ x. (area_at from - area_at (from + 1)) + sum (map (λ k. area_at k - area_at (k + 1)) (range_with_len (from + 1) n) ++ area_at x ∷ [])) (sym place)
-    ∙ ap (λ x. (area_at from - area_at (from + 1)) + x) rest
-    ∙ omega arith
+    let more = area-cons (area_at from - area_at (from + 1)) (map (λ k. area_at k - area_at (k + 1)) (range_with_len (from + 1) n)) in
+    let last = ap area_at place in
+    omega arith
+
+take-range : {X : Type 0} (f : ℕ → X) (from n most : ℕ) → n ≤ most → take n (map f (range_with_len from most)) ≡ map f (range_with_len from n)
+take-range f from zero most few = refl
+take-range f from (suc n) zero few = absurd (omega arith)
+take-range f from (suc n) (suc most) few = ap (λ xs. f from ∷ xs) (take-range f (from + 1) n most (omega arith))
 
 module _ (cells : ℕ) where
   -- the area of what a flat operator makes
@@ -87,11 +92,28 @@ module _ (cells : ℕ) (shrink swell shrink_inside : List ℕ → List ℕ) (pai
     spectrum_long =
         simp (length-append, length-map-range_with_len) (omega arith)
 
+    spectrum_positive : drop depth (spectrum shrink swell shrink_inside depth f) ≡ positive
+    spectrum_positive = drop_at negative positive depth (length-map-range_with_len (λ n. closing_entry swell shrink_inside f (depth - n)) 0 depth)
+
+    -- the entries from size 0 to below n, and the area of the opening of size n
+    entries_below : (n : ℕ) → sum (map (opening_entry shrink swell f) (range_with_len 0 n)) + area (opening shrink swell n f) ≡ area f
+    entries_below n =
+        ap (λ k. sum (map (opening_entry shrink swell f) (range_with_len 0 n)) + area (opening shrink swell k f)) (sym (zero-add n))
+        ∙ telescope (λ k. area (opening shrink swell k f)) (λ k. falling k f long) 0 n
+
+    spectrum_removed : (n : ℕ) → n ≤ depth → sum (take n (drop depth (spectrum shrink swell shrink_inside depth f))) + area (opening shrink swell n f) ≡ area f
+    spectrum_removed n few =
+        let entries = map (opening_entry shrink swell f) (range_with_len 0 depth) in
+        let within : n ≤ length entries = rw length-map-range_with_len few in
+        ap (λ xs. sum xs + area (opening shrink swell n f))
+        (ap (take n) spectrum_positive ∙ take-append-le n entries _ within ∙ take-range (opening_entry shrink swell f) 0 n depth few)
+        ∙ entries_below n
+
     spectrum_total : sum (drop depth (spectrum shrink swell shrink_inside depth f)) ≡ area f
     spectrum_total =
-        ap sum (drop_at negative positive depth (length-map-range_with_len (λ n. closing_entry swell shrink_inside f (depth - n)) 0 depth))
-        ∙ ap (λ n. sum (map (opening_entry shrink swell f) (range_with_len 0 depth) ++ area (opening shrink swell n f) ∷ [])) (sym (zero-add depth))
-        ∙ telescope (λ n. area (opening shrink swell n f)) (λ n. falling n f long) 0 depth
+        ap sum spectrum_positive
+        ∙ fold_push ◌+◌ 0 (map (opening_entry shrink swell f) (range_with_len 0 depth)) (area (opening shrink swell depth f))
+        ∙ entries_below depth
 
     spectrum_over_cuts : (top : ℕ) → HeightsAtMost top f → ListSum top (spectrum shrink swell shrink_inside depth f) (λ a. spectrum shrink swell shrink_inside depth (cut a f))
     spectrum_over_cuts top t =
@@ -109,6 +131,7 @@ pairs_have_spectra cells shrink swell shrink_inside pair closing_pair = record {
   falling = falling cells shrink swell shrink_inside pair closing_pair;
   growing = growing cells shrink swell shrink_inside pair closing_pair;
   long = spectrum_long cells shrink swell shrink_inside pair closing_pair;
+  removed = λ depth n f long few. spectrum_removed cells shrink swell shrink_inside pair closing_pair depth f long n few;
   total = spectrum_total cells shrink swell shrink_inside pair closing_pair;
   sums = λ top depth f long t. spectrum_over_cuts cells shrink swell shrink_inside pair closing_pair depth f long top t;
 }

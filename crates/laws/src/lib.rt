@@ -4,5 +4,6 @@
 mod theorems;
 
 pub use theorems::{
-    closing_laws, element_laws, opening_laws, reconstruction_laws, skeleton_laws, spectrum_laws,
+    closing_laws, cut_laws, element_laws, opening_laws, reconstruction_laws, skeleton_laws,
+    spectrum_laws,
 };

@@ -15,11 +15,16 @@ pub fn element_laws(element: &Element)
     ensures closing { DilationAndErosionInsideClose element.now }
 {}
 
-/// Openings by any such pair never rise above the sheet and fall with the size, and a sheet is the sum of its cuts.
-#[tactic(auto, using(crate::proofs::Openings::pairs_open, crate::proofs::SumsOfCuts::sheets_are_sums_of_cuts))]
+/// A sheet is the sum of its cuts.
+#[tactic(auto, using(crate::proofs::SumsOfCuts::sheets_are_sums_of_cuts))]
+pub fn cut_laws()
+    ensures { SheetsAreSumsOfCuts }
+{}
+
+/// Openings by any such pair never rise above the sheet and fall with the size.
+#[tactic(auto, using(crate::proofs::Openings::pairs_open))]
 pub fn opening_laws()
-    ensures cuts { SheetsAreSumsOfCuts }
-    ensures openings { PairsOpen }
+    ensures { PairsOpen }
 {}
 
 /// Closings never fall below the sheet and grow with the size.
@@ -34,13 +39,15 @@ pub fn reconstruction_laws()
     ensures { PairsReconstruct }
 {}
 
-/// Restoring a skeleton gives back every opening of its sheet, and skeletons are the sums of those of the cuts.
+/// Restoring a skeleton gives back every opening of its sheet, no step of it lowers a cell, and skeletons are the sums of those of the
+/// cuts.
 #[tactic(auto, using(crate::proofs::Skeletons::pairs_restore))]
 pub fn skeleton_laws()
     ensures { PairsRestore }
 {}
 
-/// No entry of a spectrum is negative, those from size 0 sum with the rest to the area, and spectra are the sums of those of the cuts.
+/// No entry of a spectrum is negative, those from size 0 on sum to what the openings take away and with the rest to the area, and spectra
+/// are the sums of those of the cuts.
 #[tactic(auto, using(crate::proofs::Spectra::pairs_have_spectra))]
 pub fn spectrum_laws()
     ensures { PairsHaveSpectra }

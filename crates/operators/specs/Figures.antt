@@ -47,10 +47,12 @@ figures =
     -- the spectrum to depth 2
     ∷ (map pos (spectrum (shrink 5) (swell 5) (shrink_inside 5) 2 line), pos 0 ∷ pos 3 ∷ pos 2 ∷ pos 0 ∷ pos 3 ∷ [])
     -- the skeleton to depth 2, and what is restored from it to sizes 1 and 0: the opening of size 1, and the line
-    ∷ (map pos line_skeleton,
+    ∷ (
+      map pos line_skeleton,
       pos 0 ∷ pos 1 ∷ pos 0 ∷ pos 1 ∷ pos 0
-      ∷ pos 0 ∷ pos 0 ∷ pos 0 ∷ pos 0 ∷ pos 0
-      ∷ pos 0 ∷ pos 1 ∷ pos 0 ∷ pos 0 ∷ pos 0 ∷ [])
+          ∷ pos 0 ∷ pos 0 ∷ pos 0 ∷ pos 0 ∷ pos 0
+          ∷ pos 0 ∷ pos 1 ∷ pos 0 ∷ pos 0 ∷ pos 0 ∷ [],
+    )
     ∷ (map pos (restored (swell 5) 5 2 1 line_skeleton), pos 0 ∷ pos 1 ∷ pos 1 ∷ pos 1 ∷ pos 0 ∷ [])
     ∷ (map pos (restored (swell 5) 5 2 0 line_skeleton), map pos line)
     -- reconstruction from a marker, and its changing rounds

@@ -70,10 +70,10 @@ module _ {X : Type 0} (height : X → ℕ) (top : ℕ) (bounded : (x : X) → he
       let sides : (lawful_side w && lawful_side h) ≡ true = subst (λ s. (lawful_side s.0 && lawful_side s.1) ≡ true) (sym r.rack_sizes)
       (sides_lawful o place (ap (λ s. leb 1 place && leb place s.2) (sym r.rack_sizes) ∙ listed.there)) in
       let none = none_refused (lawful_side w && lawful_side h) _ _ sides
-          (none_refused (eqb (length answer_was) (w * h) && eqb (length work_was) (w * h)) _ _ (rw (eq-eqb _ _ answer_long, eq-eqb _ _ work_long) refl)
-          (none_refused (lawful_size depth && leb size depth) _ _ (rw (listed.lawful, le-leb size depth within) refl)
-          (none_refused (eqb (length pieces) ((depth + 1) * (w * h))) _ _ (eq-eqb _ _ count)
-          (rw (built, none_above top (times size (shrink e w h) f) topped low) refl)))) in
+      (none_refused (eqb (length answer_was) (w * h) && eqb (length work_was) (w * h)) _ _ (rw (eq-eqb _ _ answer_long, eq-eqb _ _ work_long) refl)
+      (none_refused (lawful_size depth && leb size depth) _ _ (rw (listed.lawful, le-leb size depth within) refl)
+      (none_refused (eqb (length pieces) ((depth + 1) * (w * h))) _ _ (eq-eqb _ _ count)
+      (rw (built, none_above top (times size (shrink e w h) f) topped low) refl)))) in
       (none, ap (λ r. written r (restored (swell e w h) (w * h) depth size pieces) answer_was) none ∙ ap (times size (swell e w h)) built)
 
   skeletons_tell : top ≤ 65536 → SkeletonsTellSheets height

@@ -9,6 +9,7 @@ abbrev pub round : (List ℕ → List ℕ) → List ℕ → List ℕ → List �
 round swell upper f = met (swell f) upper
 
 -- how many times a map changes a list, one time after the other, until one would change nothing; at most so many times
+-- (`bytes_eq` tells whether two lists of numbers are the same)
 abbrev pub changing_times : ℕ → (List ℕ → List ℕ) → List ℕ → ℕ
 changing_times zero map f = 0
 changing_times (suc most) map f = cond (bytes_eq (map f) f) 0 (suc (changing_times most map (map f)))

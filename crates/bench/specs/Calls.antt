@@ -1,5 +1,5 @@
 -- The calls on the bench: what each refuses, in order, and what it leaves. Assumes nothing.
-use Rattle.std.specs.Prelude.{ℕ, ◌*◌, Bool, true, false, cond, not, ◌&&◌, ◌||◌, ◌≡◌, List, length, map, ℤ, is_some, Some, None, Option, Result, MatchResult, OnErr, ◌==◌, nat_le}
+use Rattle.std.specs.Prelude.{ℕ, ◌*◌, Bool, true, false, cond, not, ◌&&◌, ◌||◌, ◌≡◌, List, length, map, ℤ, is_some, Some, None, Option, Result, MatchResult, OnErr, ◌==◌}
 use Rattle.morphology.specs.Sheets.{area}
 use Rattle.morphology.specs.Erosion.{operated}
 use Rattle.morphology.specs.declared.operation.Operation.{Operation}
@@ -7,7 +7,7 @@ use Rattle.limits.specs.declared.fault.Fault.{Fault}
 use Rattle.limits.specs.declared.fault.Fault.TheVariants.{Length, SheetPlace, TallyPlace, Flat, NoVisit, VisitOpen, OtherFlat, EmptySheet, EmptyTally, Unequal}
 use Rattle.bench.specs.declared.marks.Marks.{Marks}
 use Rattle.limits.specs.Faults.{first, tells, told, unless}
-use Rattle.limits.specs.Sizes.{sizes_refusal}
+use Rattle.limits.specs.Sizes.{lawful_flat, sizes_refusal}
 use Rattle.bench.specs.declared.rack.Rack.{Rack}
 use Rattle.bench.specs.Model.{Outline, State, cells_from, is_place, overwritten, place_start, rack_outline, rack_state, sheet_of}
 
@@ -117,7 +117,7 @@ equal_benches r s = (r.w == s.w && r.h == s.h) && same_visit r.visit s.visit
 -- begin: the flat's number, then no visit open on either, then rack and slate equal
 abbrev pub begin_refusal : Outline → Outline → ℕ → Option Fault
 begin_refusal r s flat =
-    first (not (nat_le 1 flat && nat_le flat 9999)) Flat
+    first (not (lawful_flat flat)) Flat
     (first (is_some r.visit || is_some s.visit) VisitOpen
     (first (not (equal_benches r s)) Unequal None))
 

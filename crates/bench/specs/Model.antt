@@ -6,7 +6,8 @@ use Rattle.bench.specs.declared.slate.Slate.{Slate}
 use Rattle.bench.specs.declared.slip.Slip.{Slip}
 
 -- The outline of a rack or a slate: its sides, how many places it has, the flat of the open visit or none, and which
--- places, counted from 1, are filled. Every refusal is told from outlines alone.
+-- places, counted from 1, are filled. Every refusal of the bench is told from outlines, and 36 also from the weight of the tally to be
+-- made.
 pub record Outline : Type 0 where
   pub w : ℕ
   pub h : ℕ
@@ -27,6 +28,10 @@ pub record State (C : Type 0) : Type 0 where
 -- the sheet in place k of a rack; no cells where the place is empty
 abbrev pub sheet_of : State (List ℕ) → ℕ → List ℕ
 sheet_of s k = unwrap_or (s.content k) []
+
+-- the tally in place k of a slate; no cells where the place is empty
+abbrev pub tally_of : State Tally → ℕ → Tally
+tally_of s k = unwrap_or (s.content k) (record { cells = []; weight = 0 })
 
 -- whether k is one of that many places, counted from 1
 abbrev pub is_place : ℕ → ℕ → Bool

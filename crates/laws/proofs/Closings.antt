@@ -1,5 +1,5 @@
 -- The laws of closings, from those of a pair to close with. Assumes nothing.
-use Rattle.std.proofs.Common.{◌≡◌, ℕ, zero, suc, List, length, subst}
+use Rattle.std.proofs.Common.{◌≡◌, ℕ, zero, suc, List, length, refl, subst}
 use Rattle.operators.specs.Closings.{closing}
 use Rattle.laws.specs.Closings.{ClosingPairLaws, PairsClose}
 use Rattle.operators.specs.Maps.{times}
@@ -28,4 +28,5 @@ pairs_close cells swell shrink_inside laws = record {
   flat = closing_flat cells swell shrink_inside laws;
   above = closing_above cells swell shrink_inside laws;
   grow = closing_grows cells swell shrink_inside laws;
+  none = λ f long. refl;
 }

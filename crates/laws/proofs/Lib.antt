@@ -11,4 +11,6 @@ pub mod Reconstruction
 pub mod Sums
 pub mod SumsOfCuts
 pub mod Skeletons
+pub mod Entries
+pub mod ClosingEntries
 pub mod Spectra

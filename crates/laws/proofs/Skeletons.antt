@@ -9,7 +9,8 @@ use Rattle.operators.specs.Maps.{times}
 use Rattle.laws.specs.Maps.{Below}
 use Rattle.operators.specs.Openings.{opening}
 use Rattle.laws.specs.Pairs.{PairLaws}
-use Rattle.operators.specs.Skeletons.{in_a_row, minus, piece_of, plus, rebuilt, skeleton, skeleton_piece}
+use Rattle.operators.specs.Restoring.{piece_of, plus, rebuilt}
+use Rattle.operators.specs.Skeletons.{concatenated, minus, skeleton, skeleton_piece}
 use Rattle.laws.specs.Skeletons.{PairsRestore}
 use Rattle.laws.specs.Sums.{ListSum, HeightsAtMost}
 use Rattle.laws.proofs.Cells.{get_or-cell_by_cell, length-cell_by_cell}
@@ -29,29 +30,29 @@ plus-minus (x ∷ f) (y ∷ g) same below =
     λ i. height i ∷ plus-minus f g (omega arith) (λ p. below (suc p)) i
 
 module _ (cells : ℕ) (p : ℕ → List ℕ) (sized : (n : ℕ) → length (p n) ≡ cells) where
-  length-in_a_row : (n : ℕ) → length (in_a_row p n) ≡ n * cells
-  length-in_a_row zero = omega arith
-  length-in_a_row (suc n) = length-append (in_a_row p n) (p n) ∙ (λ i. length-in_a_row n i + sized n i) ∙ sym (suc-mul n cells)
+  length-concatenated : (n : ℕ) → length (concatenated p n) ≡ n * cells
+  length-concatenated zero = omega arith
+  length-concatenated (suc n) = length-append (concatenated p n) (p n) ∙ (λ i. length-concatenated n i + sized n i) ∙ sym (suc-mul n cells)
 
   -- the list behind some pieces, and a piece
-  piece_behind : (n : ℕ) (x rest : List ℕ) → length x ≡ cells → piece_of cells (in_a_row p n ++ (x ++ rest)) n ≡ x
+  piece_behind : (n : ℕ) (x rest : List ℕ) → length x ≡ cells → piece_of cells (concatenated p n ++ (x ++ rest)) n ≡ x
   piece_behind n x rest long =
-      ap (take cells) (drop_at (in_a_row p n) (x ++ rest) (n * cells) (length-in_a_row n)) ∙ take_at x rest cells long
+      ap (take cells) (drop_at (concatenated p n) (x ++ rest) (n * cells) (length-concatenated n)) ∙ take_at x rest cells long
 
-  piece_within : (depth n : ℕ) (rest : List ℕ) → n < depth → piece_of cells (in_a_row p depth ++ rest) n ≡ p n
+  piece_within : (depth n : ℕ) (rest : List ℕ) → n < depth → piece_of cells (concatenated p depth ++ rest) n ≡ p n
   piece_within zero n rest low = absurd (omega arith)
-  piece_within (suc depth) n rest low = ap (λ xs. piece_of cells xs n) (append_assoc (in_a_row p depth) (p depth) rest) ∙ elim (cases_lt n depth) [
+  piece_within (suc depth) n rest low = ap (λ xs. piece_of cells xs n) (append_assoc (concatenated p depth) (p depth) rest) ∙ elim (cases_lt n depth) [
     | inl within ↦ piece_within depth n (p depth ++ rest) within
     | inr last ↦
         let same : depth ≡ n = omega arith in
-        ap (λ d. piece_of cells (in_a_row p d ++ (p d ++ rest)) n) same ∙ piece_behind n (p n) rest (sized n)
+        ap (λ d. piece_of cells (concatenated p d ++ (p d ++ rest)) n) same ∙ piece_behind n (p n) rest (sized n)
   ]
 
 -- rows of pieces are sums where the pieces are
-rows_over_cuts : (top : ℕ) (p : ℕ → List ℕ) (q : ℕ → ℕ → List ℕ) → ((n : ℕ) → ListSum top (p n) (λ a. q a n)) → (n : ℕ) → ListSum top (in_a_row p n) (λ a. in_a_row (q a) n)
+rows_over_cuts : (top : ℕ) (p : ℕ → List ℕ) (q : ℕ → ℕ → List ℕ) → ((n : ℕ) → ListSum top (p n) (λ a. q a n)) → (n : ℕ) → ListSum top (concatenated p n) (λ a. concatenated (q a) n)
 rows_over_cuts top p q each zero = list_fold_none ◌+◌ 0 refl top
 rows_over_cuts top p q each (suc n) =
-    list_fold_append ◌+◌ 0 top (in_a_row p n) (p n) (λ a. in_a_row (q a) n) (λ a. q a n) (rows_over_cuts top p q each n) (each n)
+    list_fold_append ◌+◌ 0 top (concatenated p n) (p n) (λ a. concatenated (q a) n) (λ a. q a n) (rows_over_cuts top p q each n) (each n)
 
 module _ (cells : ℕ) (shrink swell : List ℕ → List ℕ) (laws : PairLaws cells shrink swell) (depth : ℕ) (f : List ℕ) (long : length f ≡ cells) where
   abbrev e : ℕ → List ℕ
@@ -71,13 +72,13 @@ module _ (cells : ℕ) (shrink swell : List ℕ → List ℕ) (laws : PairLaws c
 
   pub skeleton_long : length pieces ≡ (depth + 1) * cells
   skeleton_long =
-      length-append (in_a_row (skeleton_piece shrink swell f) depth) (e depth)
-      ∙ (λ i. length-in_a_row cells (skeleton_piece shrink swell f) piece_sized depth i + sized depth i)
+      length-append (concatenated (skeleton_piece shrink swell f) depth) (e depth)
+      ∙ (λ i. length-concatenated cells (skeleton_piece shrink swell f) piece_sized depth i + sized depth i)
       ∙ omega (arith, add-mul depth 1 cells, one-mul cells)
 
   last_piece : piece_of cells pieces depth ≡ e depth
   last_piece =
-      ap (λ xs. piece_of cells (in_a_row (skeleton_piece shrink swell f) depth ++ xs) depth) (sym (append-nil (e depth)))
+      ap (λ xs. piece_of cells (concatenated (skeleton_piece shrink swell f) depth ++ xs) depth) (sym (append-nil (e depth)))
       ∙ piece_behind cells (skeleton_piece shrink swell f) piece_sized depth (e depth) [] (sized depth)
 
   -- after so many pieces it is the sheet eroded as many times fewer
@@ -94,8 +95,8 @@ module _ (cells : ℕ) (shrink swell : List ℕ → List ℕ) (laws : PairLaws c
 
   pub skeleton_over_cuts : (top : ℕ) → HeightsAtMost top f → ListSum top pieces (λ a. skeleton shrink swell depth (cut a f))
   skeleton_over_cuts top t =
-      list_fold_append ◌+◌ 0 top (in_a_row (skeleton_piece shrink swell f) depth) (e depth)
-      (λ a. in_a_row (skeleton_piece shrink swell (cut a f)) depth) (λ a. times depth shrink (cut a f))
+      list_fold_append ◌+◌ 0 top (concatenated (skeleton_piece shrink swell f) depth) (e depth)
+      (λ a. concatenated (skeleton_piece shrink swell (cut a f)) depth) (λ a. times depth shrink (cut a f))
       (rows_over_cuts top (skeleton_piece shrink swell f) (λ a. skeleton_piece shrink swell (cut a f)) piece_over_cuts depth)
       (list_fold_same ◌+◌ 0 top (e depth) (λ a. cut a (e depth)) (λ a. times depth shrink (cut a f)) (λ a low. sym (e_cut a low depth))
       (sheets_are_sums_of_cuts top (e depth) (e_topped depth)))

@@ -1,5 +1,5 @@
 -- The laws of a pair of maps on sheets, one that shrinks and one that swells, and that erosion and dilation keep them.
--- What is said of openings, skeletons and spectra rests on these laws alone. Assumes nothing.
+-- What is said of openings, reconstruction, skeletons and spectra from size 0 on rests on these laws alone. Assumes nothing.
 use Rattle.std.specs.Prelude.{◌≡◌, ℕ, ◌*◌, List, length}
 use Rattle.elements.specs.declared.element.Element.{Element}
 use Rattle.elements.specs.Elements.{offsets}

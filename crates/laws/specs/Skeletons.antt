@@ -3,7 +3,8 @@ use Rattle.std.specs.Prelude.{◌≡◌, ℕ, ◌+◌, ◌-◌, ◌*◌, ◌≤�
 use Rattle.morphology.specs.Cells.{cut}
 use Rattle.operators.specs.Maps.{times}
 use Rattle.operators.specs.Openings.{opening}
-use Rattle.operators.specs.Skeletons.{rebuilt, restored, skeleton}
+use Rattle.operators.specs.Restoring.{rebuilt, restored}
+use Rattle.operators.specs.Skeletons.{skeleton}
 use Rattle.laws.specs.Maps.{Below}
 use Rattle.laws.specs.Pairs.{PairLaws}
 use Rattle.laws.specs.Sums.{ListSum, HeightsAtMost}

@@ -1,5 +1,5 @@
 -- Sums over the heights from 1 to a top, and lists that are such sums, number by number. Assumes nothing.
-use Rattle.std.specs.Prelude.{◌≡◌, ℕ, zero, suc, ◌+◌, ◌≤◌, max, List, length, ℤ, pos, ◌+ℤ◌, slice_index_or}
+use Rattle.std.specs.Prelude.{◌≡◌, ℕ, zero, suc, ◌+◌, ◌≤◌, max, List, length, ℤ, pos, ◌+ℤ◌, slice_index, slice_index_or}
 use Rattle.morphology.specs.Cells.{cut}
 
 -- what an operation makes of f(1) to f(top), one after the other, from a start
@@ -18,7 +18,8 @@ int_sum_to = fold_heights ◌+ℤ◌ (pos 0)
 abbrev pub greatest_to : ℕ → (ℕ → ℕ) → ℕ
 greatest_to = fold_heights max 0
 
--- Of lists f(1) to f(top), which are all as long as this one, the operation makes this one, number by number.
+-- All lists f(1), f(2) and so on are as long as this one, and the operation makes this one of the first `top` of them, number by
+-- number.
 pub record ListFold {X : Type 0} (op : X → X → X) (start : X) (top : ℕ) (xs : List X) (f : ℕ → List X) : Type 0 where
   pub as_long : (a : ℕ) → 1 ≤ a → length (f a) ≡ length xs
   pub number : (k : ℕ) → slice_index_or xs k start ≡ fold_heights op start top (λ a. slice_index_or (f a) k start)
@@ -32,7 +33,7 @@ IntListSum = ListFold ◌+ℤ◌ (pos 0)
 
 -- no height of a sheet is above the top
 abbrev pub HeightsAtMost : ℕ → List ℕ → Type 0
-HeightsAtMost top f = (p : ℕ) → slice_index_or f p 0 ≤ top
+HeightsAtMost top f = (p : ℕ) → slice_index f p ≤ top
 
 -- a sheet is the sum of its cuts
 abbrev pub SheetsAreSumsOfCuts : Type 0

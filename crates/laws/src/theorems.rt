@@ -1,15 +1,16 @@
 // The laws, each the contract of a function that does nothing.
-ghost use Rattle.laws.specs.Closings.{DilationAndErosionInsideClose, PairsClose};
+ghost use Rattle.laws.specs.Closings.{ClosingsHaveEntries, DilationAndErosionInsideClose, PairsClose};
 ghost use Rattle.laws.specs.Openings.{PairsOpen};
 ghost use Rattle.laws.specs.Pairs.{ErosionAndDilationArePair};
 ghost use Rattle.laws.specs.Reconstruction.{PairsReconstruct};
 ghost use Rattle.laws.specs.Skeletons.{PairsRestore};
-ghost use Rattle.laws.specs.Spectra.{PairsHaveSpectra};
+ghost use Rattle.laws.specs.Spectra.{PairsHaveSpectra, SpectraOfBoth};
 ghost use Rattle.laws.specs.Sums.{SheetsAreSumsOfCuts};
 
 use elements::Element;
 
-/// Erosion and dilation by an element keep the laws of a pair, and so do dilation and the erosion of closings.
+/// Erosion and dilation by an element keep the laws of a pair, and dilation and the erosion that skips offsets falling outside those of a
+/// pair to close with.
 pub fn element_laws(element: &Element)
     ensures pair { ErosionAndDilationArePair element.now }
     ensures closing { DilationAndErosionInsideClose element.now }
@@ -27,10 +28,11 @@ pub fn opening_laws()
     ensures { PairsOpen }
 {}
 
-/// Closings never fall below the sheet and grow with the size.
-#[tactic(auto, using(crate::proofs::Closings::pairs_close))]
+/// Closings never fall below the sheet and grow with the size, so that no entry of a negative size is negative.
+#[tactic(auto, using(crate::proofs::Closings::pairs_close, crate::proofs::ClosingEntries::closings_have_entries))]
 pub fn closing_laws()
-    ensures { PairsClose }
+    ensures closings { PairsClose }
+    ensures entries { ClosingsHaveEntries }
 {}
 
 /// Reconstruction settles after the rounds that are told, and these are the greatest of those of the cuts.
@@ -46,9 +48,10 @@ pub fn skeleton_laws()
     ensures { PairsRestore }
 {}
 
-/// No entry of a spectrum is negative, those from size 0 on sum to what the openings take away and with the rest to the area, and spectra
-/// are the sums of those of the cuts.
-#[tactic(auto, using(crate::proofs::Spectra::pairs_have_spectra))]
+/// From size 0 on no entry of a spectrum is negative, and they sum to what the openings take away and with the rest to the area; and
+/// spectra are the sums of those of the cuts.
+#[tactic(auto, using(crate::proofs::Spectra::pairs_have_spectra, crate::proofs::Spectra::spectra_of_both))]
 pub fn spectrum_laws()
-    ensures { PairsHaveSpectra }
+    ensures openings { PairsHaveSpectra }
+    ensures spectra { SpectraOfBoth }
 {}

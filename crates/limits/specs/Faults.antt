@@ -25,6 +25,11 @@ fault_number EmptyTally = 35
 fault_number Weight = 36
 fault_number Unequal = 37
 
+-- the number of a refusal that there may be, 0 where there is none
+abbrev pub refusal_number : Option Fault → ℕ
+refusal_number None = 0
+refusal_number (Some fault) = fault_number fault
+
 -- a fault if the test says so, and else what the rest finds
 abbrev pub first : {F : Type 0} → Bool → F → Option F → Option F
 first test fault rest = cond test (Some fault) rest

@@ -19,7 +19,7 @@ pub enum Fault {
     TallyPlace = 6,
     /// A size or a depth is outside its limits.
     SizeOrDepth = 7,
-    /// The list for a spectrum or of a skeleton has not the length that depth and sides ask for.
+    /// The list of a spectrum or of a skeleton has not the length that depth and sides ask for.
     ListLength = 8,
     /// A factor is not −100 to 100, or a cut height not 1 to the kind's top.
     FactorOrHeight = 9,

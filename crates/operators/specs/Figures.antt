@@ -1,31 +1,30 @@
 -- Worked figures of the operators, each beside what it has to be. Assumes nothing.
-use Rattle.std.specs.Prelude.{◌≡◌, ℕ, Bool, true, ◌&&◌, List, [], ◌∷◌, map, replicate, Some, None, Option, ℤ, pos, negsuc, ◌==◌}
+use Rattle.std.specs.Prelude.{◌≡◌, ℕ, Bool, true, ◌&&◌, List, [], ◌∷◌, map, replicate, ℤ, pos, negsuc, ◌==◌}
 use Rattle.std.specs.List.{list_all}
 use Rattle.std.specs.Ordering.{int_eq}
 use lib.Pointwise.{pointwise}
 use Rattle.elements.specs.BuiltIns.{pair}
-use Rattle.limits.specs.declared.fault.Fault.{Fault}
-use Rattle.limits.specs.Faults.{fault_number}
+use Rattle.limits.specs.Faults.{refusal_number}
 use Rattle.morphology.specs.Cells.{cut}
 use Rattle.morphology.specs.Erosion.{eroded, dilated}
 use Rattle.operators.specs.Closings.{closing, eroded_inside}
 use Rattle.operators.specs.Openings.{opening}
 use Rattle.operators.specs.Reconstruction.{reconstructed, rounds}
-use Rattle.operators.specs.Restoring.{answer_list, restore_refusal, work_list}
-use Rattle.operators.specs.Skeletons.{restored, skeleton}
+use Rattle.operators.specs.Restoring.{answer_list, restore_refusal, restored, work_list}
+use Rattle.operators.specs.Skeletons.{skeleton}
 use Rattle.operators.specs.Spectra.{spectrum}
 use Rattle.operators.specs.Tallies.{added, differed, edge, peak, scaled}
 use Rattle.operators.specs.Valleys.{valley}
 
--- The maps of the element of (0, 0) and (1, 0) on a line of w cells.
+-- The erosion, dilation and closing by the element of (0, 0) and (1, 0) on a line of w cells.
 abbrev shrink : ℕ → List ℕ → List ℕ
 shrink w = eroded w 1 pair
 
 abbrev swell : ℕ → List ℕ → List ℕ
 swell w = dilated w 1 pair
 
-abbrev shrink_inside : ℕ → List ℕ → List ℕ
-shrink_inside w = eroded_inside w 1 pair
+abbrev close : ℕ → ℕ → List ℕ → List ℕ
+close w = closing (swell w) (eroded_inside w 1 pair)
 
 -- The line of five cells that most figures are of, and its skeleton.
 abbrev line : List ℕ
@@ -41,11 +40,11 @@ figures =
     (map pos (shrink 5 line), pos 0 ∷ pos 1 ∷ pos 1 ∷ pos 0 ∷ pos 0 ∷ [])
     ∷ (map pos (swell 5 line), pos 0 ∷ pos 2 ∷ pos 2 ∷ pos 2 ∷ pos 2 ∷ [])
     ∷ (map pos (opening (shrink 5) (swell 5) 1 line), pos 0 ∷ pos 1 ∷ pos 1 ∷ pos 1 ∷ pos 0 ∷ [])
-    ∷ (map pos (closing (swell 5) (shrink_inside 5) 1 line), pos 0 ∷ pos 2 ∷ pos 2 ∷ pos 2 ∷ pos 2 ∷ [])
+    ∷ (map pos (close 5 1 line), pos 0 ∷ pos 2 ∷ pos 2 ∷ pos 2 ∷ pos 2 ∷ [])
     -- peak
     ∷ (peak (shrink 5) (swell 5) line, pos 0 ∷ pos 1 ∷ pos 0 ∷ pos 1 ∷ pos 0 ∷ [])
     -- the spectrum to depth 2
-    ∷ (map pos (spectrum (shrink 5) (swell 5) (shrink_inside 5) 2 line), pos 0 ∷ pos 3 ∷ pos 2 ∷ pos 0 ∷ pos 3 ∷ [])
+    ∷ (map pos (spectrum (close 5) (shrink 5) (swell 5) 2 line), pos 0 ∷ pos 3 ∷ pos 2 ∷ pos 0 ∷ pos 3 ∷ [])
     -- the skeleton to depth 2, and what is restored from it to sizes 1 and 0: the opening of size 1, and the line
     ∷ (
       map pos line_skeleton,
@@ -59,7 +58,7 @@ figures =
     ∷ (map pos (reconstructed (swell 5) (0 ∷ 2 ∷ 0 ∷ 0 ∷ 0 ∷ []) line), pos 0 ∷ pos 2 ∷ pos 1 ∷ pos 1 ∷ pos 0 ∷ [])
     ∷ (pos (rounds (swell 5) (0 ∷ 2 ∷ 0 ∷ 0 ∷ 0 ∷ []) line) ∷ [], pos 2 ∷ [])
     -- the spectrum to depth 1 of one cell of 5
-    ∷ (map pos (spectrum (shrink 1) (swell 1) (shrink_inside 1) 1 (5 ∷ [])), pos 0 ∷ pos 5 ∷ pos 0 ∷ [])
+    ∷ (map pos (spectrum (close 1) (shrink 1) (swell 1) 1 (5 ∷ [])), pos 0 ∷ pos 5 ∷ pos 0 ∷ [])
     ∷ []
 
 -- Further figures, of what the ones above leave open.
@@ -72,7 +71,7 @@ further_figures =
     ∷ (peak (shrink 3) (swell 3) (1 ∷ 1 ∷ 0 ∷ []), pos 0 ∷ pos 0 ∷ pos 0 ∷ [])
     -- edge and valley; a sum and a multiple of differences
     ∷ (edge (shrink 5) line, pos 0 ∷ pos 1 ∷ pos 0 ∷ pos 2 ∷ pos 0 ∷ [])
-    ∷ (valley (swell 5) (shrink_inside 5) line, pos 0 ∷ pos 0 ∷ pos 1 ∷ pos 0 ∷ pos 2 ∷ [])
+    ∷ (valley (close 5) line, pos 0 ∷ pos 0 ∷ pos 1 ∷ pos 0 ∷ pos 2 ∷ [])
     ∷ (added (differed (1 ∷ 4 ∷ []) (3 ∷ 1 ∷ [])) (pos 1 ∷ pos 1 ∷ []), negsuc 0 ∷ pos 4 ∷ [])
     ∷ (scaled (negsuc 1) (differed (1 ∷ 4 ∷ []) (3 ∷ 1 ∷ [])), pos 4 ∷ negsuc 5 ∷ [])
     -- reconstruction from a marker that is above the upper sheet in one cell
@@ -80,26 +79,21 @@ further_figures =
     ∷ (pos (rounds (swell 5) (5 ∷ 0 ∷ 0 ∷ 5 ∷ 0 ∷ []) line) ∷ [], pos 0 ∷ [])
     ∷ []
 
--- the number of a refusal, 0 for none
-abbrev number : Option Fault → ℕ
-number None = 0
-number (Some fault) = fault_number fault
-
--- The refusals of restore on lines of two cells, in their order: each mends the fault of the one before.
+-- The refusals of restore on lines of two cells, in their order; the last two are accepted.
 abbrev pub refusal_figures : List (ℕ × ℕ)
 refusal_figures =
-    (number (restore_refusal (swell 2) 0 1 65 66 [] 1 2), 1)
-    ∷ (number (restore_refusal (swell 2) 2 1025 65 66 [] 1 2), 1)
-    ∷ (number (restore_refusal (swell 2) 2 1 65 66 [] 1 2), 4)
-    ∷ (number (restore_refusal (swell 2) 2 1 65 66 [] 2 3), 4)
-    ∷ (number (restore_refusal (swell 2) 2 1 65 66 [] 2 2), 7)
-    ∷ (number (restore_refusal (swell 2) 2 1 0 0 [] 2 2), 7)
-    ∷ (number (restore_refusal (swell 2) 2 1 1 2 [] 2 2), 7)
-    ∷ (number (restore_refusal (swell 2) 2 1 1 1 (0 ∷ 0 ∷ 65537 ∷ []) 2 2), 8)
-    ∷ (number (restore_refusal (swell 2) 2 1 1 1 (0 ∷ 0 ∷ 65537 ∷ 0 ∷ []) 2 2), 21)
-    ∷ (number (restore_refusal (swell 2) 2 1 1 0 (0 ∷ 1 ∷ 65536 ∷ 0 ∷ []) 2 2), 21)
-    ∷ (number (restore_refusal (swell 2) 2 1 1 1 (0 ∷ 1 ∷ 65536 ∷ 0 ∷ []) 2 2), 0)
-    ∷ (number (restore_refusal (swell 2) 2 1 64 64 (replicate 130 0) 2 2), 0)
+    (refusal_number (restore_refusal (swell 2) 0 1 65 66 [] 1 2), 1)
+    ∷ (refusal_number (restore_refusal (swell 2) 2 1025 65 66 [] 1 2), 1)
+    ∷ (refusal_number (restore_refusal (swell 2) 2 1 65 66 [] 1 2), 4)
+    ∷ (refusal_number (restore_refusal (swell 2) 2 1 65 66 [] 2 3), 4)
+    ∷ (refusal_number (restore_refusal (swell 2) 2 1 65 66 [] 2 2), 7)
+    ∷ (refusal_number (restore_refusal (swell 2) 2 1 0 0 [] 2 2), 7)
+    ∷ (refusal_number (restore_refusal (swell 2) 2 1 1 2 [] 2 2), 7)
+    ∷ (refusal_number (restore_refusal (swell 2) 2 1 1 1 (0 ∷ 0 ∷ 65537 ∷ []) 2 2), 8)
+    ∷ (refusal_number (restore_refusal (swell 2) 2 1 1 1 (0 ∷ 0 ∷ 65537 ∷ 0 ∷ []) 2 2), 21)
+    ∷ (refusal_number (restore_refusal (swell 2) 2 1 1 0 (0 ∷ 1 ∷ 65536 ∷ 0 ∷ []) 2 2), 21)
+    ∷ (refusal_number (restore_refusal (swell 2) 2 1 1 1 (0 ∷ 1 ∷ 65536 ∷ 0 ∷ []) 2 2), 0)
+    ∷ (refusal_number (restore_refusal (swell 2) 2 1 64 64 (replicate 130 0) 2 2), 0)
     ∷ []
 
 -- what a restore leaves in its two lists, accepted, refused for a cell, and refused for a length

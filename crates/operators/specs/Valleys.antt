@@ -1,8 +1,7 @@
 -- Valleys, which rest on closings. Assumes nothing.
 use Rattle.std.specs.Prelude.{ℕ, List, ℤ}
-use Rattle.operators.specs.Closings.{closing}
 use Rattle.operators.specs.Tallies.{differed}
 
--- valley: the closing of size 1 minus the sheet
-abbrev pub valley : (List ℕ → List ℕ) → (List ℕ → List ℕ) → List ℕ → List ℤ
-valley swell shrink_inside f = differed (closing swell shrink_inside 1 f) f
+-- valley: the closing of size 1 minus the sheet, where `close k` is the closing of size k
+abbrev pub valley : (ℕ → List ℕ → List ℕ) → List ℕ → List ℤ
+valley close f = differed (close 1 f) f

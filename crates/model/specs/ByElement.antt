@@ -8,22 +8,23 @@ use Rattle.operators.specs.Closings.{closing, eroded_inside}
 use Rattle.operators.specs.Openings.{opening}
 use Rattle.operators.specs.Reconstruction.{reconstructed}
 
--- Its erosion and dilation, and the erosion of closings, which skips offsets that fall outside.
+-- Its erosion and dilation, and its closing of a size.
 abbrev pub shrink : Element → ℕ → ℕ → List ℕ → List ℕ
 shrink e w h = eroded w h (offsets e)
 
 abbrev pub swell : Element → ℕ → ℕ → List ℕ → List ℕ
 swell e w h = dilated w h (offsets e)
 
-abbrev pub shrink_inside : Element → ℕ → ℕ → List ℕ → List ℕ
-shrink_inside e w h = eroded_inside w h (offsets e)
+abbrev pub close : Element → ℕ → ℕ → ℕ → List ℕ → List ℕ
+close e w h = closing (dilated w h (offsets e)) (eroded_inside w h (offsets e))
 
--- Its opening and closing of a size: of two sheets only the first is read. And its reconstruction, from a marker and an upper sheet.
+-- What it makes of two sheets: its opening and closing of a size, for which only the first is read, and its reconstruction, from a
+-- marker and an upper sheet.
 abbrev pub opening_by : Element → ℕ → Making
 opening_by e size w h f g = opening (shrink e w h) (swell e w h) size f
 
 abbrev pub closing_by : Element → ℕ → Making
-closing_by e size w h f g = closing (swell e w h) (shrink_inside e w h) size f
+closing_by e size w h f g = close e w h size f
 
 abbrev pub reconstruction_by : Element → Making
 reconstruction_by e w h marker upper = reconstructed (swell e w h) marker upper

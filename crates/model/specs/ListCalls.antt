@@ -9,7 +9,7 @@ use Rattle.bench.specs.Model.{Outline, State, is_place, sheet_of}
 use Rattle.bench.specs.Calls.{sheet_refusal}
 use Rattle.operators.specs.Skeletons.{skeleton}
 use Rattle.operators.specs.Spectra.{spectrum}
-use Rattle.model.specs.ByElement.{shrink, shrink_inside, swell}
+use Rattle.model.specs.ByElement.{close, shrink, swell}
 
 -- to a depth, of the sheet in a place, to a list that is to have so many numbers: the place, then the depth, then the length of the
 -- list, then the visit and the sheet
@@ -20,7 +20,7 @@ depth_refusal o depth place len wanted =
     (first (not (len == wanted)) ListLength
     (sheet_refusal o place)))
 
--- spectrum: two entries for each size up to the depth, and the rest
+-- spectrum: an entry for each size from −depth to depth − 1, and the rest
 abbrev pub spectrum_refusal : Outline → ℕ → ℕ → ℕ → Option Fault
 spectrum_refusal o depth place len = depth_refusal o depth place len (2 * depth + 1)
 
@@ -29,7 +29,7 @@ spectrum_answer e s depth place len =
     let w = s.outline.w in
     let h = s.outline.h in
     tells (spectrum_refusal s.outline depth place len)
-    (spectrum (shrink e w h) (swell e w h) (shrink_inside e w h) depth (sheet_of s place))
+    (spectrum (close e w h) (shrink e w h) (swell e w h) depth (sheet_of s place))
 
 -- skeleton: a piece for each size from 0 to the depth
 abbrev pub skeleton_refusal : Outline → ℕ → ℕ → ℕ → Option Fault

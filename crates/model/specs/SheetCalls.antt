@@ -6,7 +6,7 @@ use Rattle.limits.specs.declared.fault.Fault.TheVariants.{SheetPlace, SizeOrDept
 use Rattle.limits.specs.Faults.{first, tells, unless}
 use Rattle.limits.specs.Sizes.{lawful_size}
 use Rattle.bench.specs.Model.{Outline, State, is_place, sheet_of}
-use Rattle.bench.specs.Calls.{Making, make_leaves, make_refusal, stored}
+use Rattle.bench.specs.Calls.{make_leaves, make_refusal, stored}
 use Rattle.operators.specs.Reconstruction.{rounds}
 use Rattle.model.specs.ByElement.{closing_by, opening_by, reconstruction_by, swell}
 
@@ -18,17 +18,22 @@ sized_refusal o size from to =
     (first (not (is_some o.visit)) NoVisit
     (first (not (o.filled from)) EmptySheet None)))
 
--- what they leave, by what they make of a sheet
-abbrev pub sized_leaves : Making → State (List ℕ) → ℕ → ℕ → ℕ → State (List ℕ)
-sized_leaves made s size from to =
-    unless (sized_refusal s.outline size from to)
-    (stored s to (made s.outline.w s.outline.h (sheet_of s from) (sheet_of s from))) s
+abbrev pub open_refusal : Outline → ℕ → ℕ → ℕ → Option Fault
+open_refusal = sized_refusal
 
+abbrev pub close_refusal : Outline → ℕ → ℕ → ℕ → Option Fault
+close_refusal = sized_refusal
+
+-- what they leave: in the target what they make of the source
 abbrev pub open_leaves : Element → State (List ℕ) → ℕ → ℕ → ℕ → State (List ℕ)
-open_leaves e s size from to = sized_leaves (opening_by e size) s size from to
+open_leaves e s size from to =
+    unless (open_refusal s.outline size from to)
+    (stored s to (opening_by e size s.outline.w s.outline.h (sheet_of s from) (sheet_of s from))) s
 
 abbrev pub close_leaves : Element → State (List ℕ) → ℕ → ℕ → ℕ → State (List ℕ)
-close_leaves e s size from to = sized_leaves (closing_by e size) s size from to
+close_leaves e s size from to =
+    unless (close_refusal s.outline size from to)
+    (stored s to (closing_by e size s.outline.w s.outline.h (sheet_of s from) (sheet_of s from))) s
 
 -- regrow: a sheet made of two, and the number of changing rounds
 abbrev pub regrow_leaves : Element → State (List ℕ) → ℕ → ℕ → ℕ → State (List ℕ)

@@ -2,17 +2,17 @@
 use Rattle.std.specs.Prelude.{ℕ, List, [], ◌∷◌, length, Ok, Err, Result}
 use Rattle.elements.specs.Elements.{offsets}
 use Rattle.limits.specs.declared.fault.Fault.{Fault}
-use Rattle.limits.specs.Faults.{tells, told}
+use Rattle.limits.specs.Faults.{tells}
 use Rattle.morphology.specs.declared.operation.Operation.TheVariants.{Erosion, Dilation}
 use Rattle.morphology.specs.Cells.{joined, met}
-use Rattle.bench.specs.Model.{State, Tally, sheet_of}
+use Rattle.bench.specs.Model.{State, Tally, sheet_of, tally_of}
 use Rattle.bench.specs.Calls.{area_answer, as_opened, begin_leaves, begin_refusal, by_element, end_leaves, end_refusal, load_leaves, load_refusal, make_leaves, make_refusal}
 use Rattle.calls.specs.Told.{show_sheet_refusal, show_tally_refusal, span_answer}
 use Rattle.model.specs.Calls.{Call, Begin, End, Load, Erode, Dilate, Open, Close, Meet, Join, Regrow, Edge, Peak, Valley, Differ, Add, Scale, Area, Span, Spectrum, Skeleton, ShowSheet, ShowTally, Told, NothingTold, SlipTold, RoundsTold, AreaTold, SpanTold, SpectrumTold, SkeletonTold, SheetTold, TallyTold}
 use Rattle.model.specs.ListCalls.{skeleton_answer, spectrum_answer}
-use Rattle.model.specs.SheetCalls.{close_leaves, open_leaves, regrow_answer, regrow_leaves, sized_refusal}
-use Rattle.model.specs.TallyCalls.{add_leaves, add_refusal, difference_refusal, differ_leaves, edge_leaves, peak_leaves, scale_leaves, scale_refusal, valley_leaves}
-use Rattle.model.specs.Weights.{multiple, sum_of_tallies, tally_of}
+use Rattle.model.specs.SheetCalls.{close_leaves, close_refusal, open_leaves, open_refusal, regrow_answer, regrow_leaves}
+use Rattle.model.specs.TallyCalls.{add_leaves, add_refusal, differ_leaves, differ_refusal, edge_leaves, edge_refusal, peak_leaves, peak_refusal, scale_leaves, scale_refusal, valley_leaves, valley_refusal}
+use Rattle.model.specs.Weights.{multiple, sum_of_tallies}
 
 -- A bench is a rack and its slate.
 pub record Bench : Type 0 where
@@ -81,30 +81,26 @@ abbrev pub telling : {X : Type 0} → (X → Told) → Result X Fault → Result
 telling tell (Ok x) = Ok (tell x)
 telling tell (Err fault) = Err fault
 
--- the answer of a call that tells nothing but its refusal
-abbrev pub nothing : Unit {0} → Told
-nothing done = NothingTold
-
 -- what each call answers: its refusal, or all that it tells, hands out and writes to lists
 abbrev pub answer : Bench → Call ℕ → Result Told Fault
 answer b (Begin flat) = tells (begin_refusal b.rack.outline b.slate.outline flat) (SlipTold flat)
-answer b (End flat) = telling nothing (told (end_refusal b.rack.outline b.slate.outline flat))
-answer b (Load place picture) = telling nothing (told (load_refusal b.rack.outline place (length picture)))
-answer b (Erode e from to) = telling nothing (told (make_refusal b.rack.outline from from to))
-answer b (Dilate e from to) = telling nothing (told (make_refusal b.rack.outline from from to))
-answer b (Open e size from to) = telling nothing (told (sized_refusal b.rack.outline size from to))
-answer b (Close e size from to) = telling nothing (told (sized_refusal b.rack.outline size from to))
-answer b (Meet one other to) = telling nothing (told (make_refusal b.rack.outline one other to))
-answer b (Join one other to) = telling nothing (told (make_refusal b.rack.outline one other to))
+answer b (End flat) = tells (end_refusal b.rack.outline b.slate.outline flat) NothingTold
+answer b (Load place picture) = tells (load_refusal b.rack.outline place (length picture)) NothingTold
+answer b (Erode e from to) = tells (make_refusal b.rack.outline from from to) NothingTold
+answer b (Dilate e from to) = tells (make_refusal b.rack.outline from from to) NothingTold
+answer b (Open e size from to) = tells (open_refusal b.rack.outline size from to) NothingTold
+answer b (Close e size from to) = tells (close_refusal b.rack.outline size from to) NothingTold
+answer b (Meet one other to) = tells (make_refusal b.rack.outline one other to) NothingTold
+answer b (Join one other to) = tells (make_refusal b.rack.outline one other to) NothingTold
 answer b (Regrow e marker upper to) = telling RoundsTold (regrow_answer e b.rack marker upper to)
-answer b (Edge e from to) = telling nothing (told (difference_refusal b.rack.outline b.slate.outline from from to))
-answer b (Peak e from to) = telling nothing (told (difference_refusal b.rack.outline b.slate.outline from from to))
-answer b (Valley e from to) = telling nothing (told (difference_refusal b.rack.outline b.slate.outline from from to))
-answer b (Differ one other to) = telling nothing (told (difference_refusal b.rack.outline b.slate.outline one other to))
+answer b (Edge e from to) = tells (edge_refusal b.rack.outline b.slate.outline from to) NothingTold
+answer b (Peak e from to) = tells (peak_refusal b.rack.outline b.slate.outline from to) NothingTold
+answer b (Valley e from to) = tells (valley_refusal b.rack.outline b.slate.outline from to) NothingTold
+answer b (Differ one other to) = tells (differ_refusal b.rack.outline b.slate.outline one other to) NothingTold
 answer b (Add one other to) =
-    telling nothing (told (add_refusal b.slate.outline (sum_of_tallies (tally_of b.slate one) (tally_of b.slate other)).weight one other to))
+    tells (add_refusal b.slate.outline (sum_of_tallies (tally_of b.slate one) (tally_of b.slate other)) one other to) NothingTold
 answer b (Scale factor from to) =
-    telling nothing (told (scale_refusal b.slate.outline (multiple factor (tally_of b.slate from)).weight factor from to))
+    tells (scale_refusal b.slate.outline (multiple factor (tally_of b.slate from)) factor from to) NothingTold
 answer b (Area place) = telling AreaTold (area_answer b.rack place)
 answer b (Span place) = telling (λ spots. SpanTold spots.0 spots.1) (span_answer b.rack place)
 answer b (Spectrum e depth place len) = telling SpectrumTold (spectrum_answer e b.rack depth place len)

@@ -1,15 +1,16 @@
 -- The calls that make a tally: what each refuses, in order, and what it leaves of the slate. Assumes nothing.
-use Rattle.std.specs.Prelude.{ℕ, Bool, not, ◌&&◌, List, ℤ, is_some, None, Option, nat_le, unsigned_abs}
+use Rattle.std.specs.Prelude.{ℕ, not, ◌&&◌, List, ℤ, is_some, None, Option}
 use Rattle.elements.specs.declared.element.Element.{Element}
 use Rattle.limits.specs.declared.fault.Fault.{Fault}
 use Rattle.limits.specs.declared.fault.Fault.TheVariants.{SheetPlace, TallyPlace, FactorOrHeight, NoVisit, EmptySheet, EmptyTally, Weight, Unequal}
 use Rattle.limits.specs.Faults.{first, unless}
-use Rattle.bench.specs.Model.{Outline, State, Tally, is_place, sheet_of}
+use Rattle.limits.specs.Sizes.{lawful_factor}
+use Rattle.bench.specs.Model.{Outline, State, Tally, is_place, sheet_of, tally_of}
 use Rattle.bench.specs.Calls.{equal_benches, stored}
 use Rattle.operators.specs.Tallies.{differed, edge, peak}
 use Rattle.operators.specs.Valleys.{valley}
-use Rattle.model.specs.ByElement.{shrink, shrink_inside, swell}
-use Rattle.model.specs.Weights.{difference, lawful_weight, multiple, sum_of_tallies, tally_of}
+use Rattle.model.specs.ByElement.{close, shrink, swell}
+use Rattle.model.specs.Weights.{difference, lawful_weight, multiple, sum_of_tallies}
 
 -- A tally made of two sheets, the same or not: the sheet places, then the tally place, then the visit on the rack, then the sources,
 -- then rack and slate equal.
@@ -21,58 +22,64 @@ difference_refusal rack slate one other to =
     (first (not (rack.filled one && rack.filled other)) EmptySheet
     (first (not (equal_benches rack slate)) Unequal None))))
 
--- what such a call leaves, by the cells that it makes
-abbrev pub difference_leaves : List ℤ → Outline → State Tally → ℕ → ℕ → ℕ → State Tally
-difference_leaves cells rack slate one other to =
-    unless (difference_refusal rack slate.outline one other to) (stored slate to (difference cells)) slate
+abbrev pub edge_refusal : Outline → Outline → ℕ → ℕ → Option Fault
+edge_refusal rack slate from to = difference_refusal rack slate from from to
 
+abbrev pub peak_refusal : Outline → Outline → ℕ → ℕ → Option Fault
+peak_refusal rack slate from to = difference_refusal rack slate from from to
+
+abbrev pub valley_refusal : Outline → Outline → ℕ → ℕ → Option Fault
+valley_refusal rack slate from to = difference_refusal rack slate from from to
+
+abbrev pub differ_refusal : Outline → Outline → ℕ → ℕ → ℕ → Option Fault
+differ_refusal = difference_refusal
+
+-- what these calls leave
 abbrev pub edge_leaves : Element → State (List ℕ) → State Tally → ℕ → ℕ → State Tally
 edge_leaves e rack slate from to =
-    difference_leaves (edge (shrink e rack.outline.w rack.outline.h) (sheet_of rack from)) rack.outline slate from from to
+    unless (edge_refusal rack.outline slate.outline from to)
+    (stored slate to (difference (edge (shrink e rack.outline.w rack.outline.h) (sheet_of rack from)))) slate
 
 abbrev pub peak_leaves : Element → State (List ℕ) → State Tally → ℕ → ℕ → State Tally
 peak_leaves e rack slate from to =
     let w = rack.outline.w in
     let h = rack.outline.h in
-    difference_leaves (peak (shrink e w h) (swell e w h) (sheet_of rack from)) rack.outline slate from from to
+    unless (peak_refusal rack.outline slate.outline from to)
+    (stored slate to (difference (peak (shrink e w h) (swell e w h) (sheet_of rack from)))) slate
 
 abbrev pub valley_leaves : Element → State (List ℕ) → State Tally → ℕ → ℕ → State Tally
 valley_leaves e rack slate from to =
-    let w = rack.outline.w in
-    let h = rack.outline.h in
-    difference_leaves (valley (swell e w h) (shrink_inside e w h) (sheet_of rack from)) rack.outline slate from from to
+    unless (valley_refusal rack.outline slate.outline from to)
+    (stored slate to (difference (valley (close e rack.outline.w rack.outline.h) (sheet_of rack from)))) slate
 
 abbrev pub differ_leaves : State (List ℕ) → State Tally → ℕ → ℕ → ℕ → State Tally
 differ_leaves rack slate one other to =
-    difference_leaves (differed (sheet_of rack one) (sheet_of rack other)) rack.outline slate one other to
+    unless (differ_refusal rack.outline slate.outline one other to)
+    (stored slate to (difference (differed (sheet_of rack one) (sheet_of rack other)))) slate
 
--- add, where the sum has this weight: the places, then the visit on the slate, then the sources, then the weight
-abbrev pub add_refusal : Outline → ℕ → ℕ → ℕ → ℕ → Option Fault
-add_refusal o weight one other to =
+-- add, where this is the sum: the places, then the visit on the slate, then the sources, then the weight
+abbrev pub add_refusal : Outline → Tally → ℕ → ℕ → ℕ → Option Fault
+add_refusal o sum one other to =
     first (not (is_place o.places one && is_place o.places other && is_place o.places to)) TallyPlace
     (first (not (is_some o.visit)) NoVisit
     (first (not (o.filled one && o.filled other)) EmptyTally
-    (first (not (lawful_weight weight)) Weight None)))
+    (first (not (lawful_weight sum)) Weight None)))
 
 abbrev pub add_leaves : State Tally → ℕ → ℕ → ℕ → State Tally
 add_leaves s one other to =
     let sum = sum_of_tallies (tally_of s one) (tally_of s other) in
-    unless (add_refusal s.outline sum.weight one other to) (stored s to sum) s
+    unless (add_refusal s.outline sum one other to) (stored s to sum) s
 
--- a factor is −100 to 100
-abbrev pub lawful_factor : ℤ → Bool
-lawful_factor factor = nat_le (unsigned_abs factor) 100
-
--- scale, where the multiple has this weight: the places, then the factor, then the visit on the slate, then the source, then the weight
-abbrev pub scale_refusal : Outline → ℕ → ℤ → ℕ → ℕ → Option Fault
-scale_refusal o weight factor from to =
+-- scale, where this is the multiple: the places, then the factor, then the visit on the slate, then the source, then the weight
+abbrev pub scale_refusal : Outline → Tally → ℤ → ℕ → ℕ → Option Fault
+scale_refusal o made factor from to =
     first (not (is_place o.places from && is_place o.places to)) TallyPlace
     (first (not (lawful_factor factor)) FactorOrHeight
     (first (not (is_some o.visit)) NoVisit
     (first (not (o.filled from)) EmptyTally
-    (first (not (lawful_weight weight)) Weight None))))
+    (first (not (lawful_weight made)) Weight None))))
 
 abbrev pub scale_leaves : State Tally → ℤ → ℕ → ℕ → State Tally
 scale_leaves s factor from to =
     let made = multiple factor (tally_of s from) in
-    unless (scale_refusal s.outline made.weight factor from to) (stored s to made) s
+    unless (scale_refusal s.outline made factor from to) (stored s to made) s

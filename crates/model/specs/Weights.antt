@@ -1,15 +1,16 @@
 -- The weights of the tallies that calls make. Assumes nothing.
-use Rattle.std.specs.Prelude.{ℕ, ◌+◌, ◌*◌, Bool, [], List, ℤ, nat_le, unsigned_abs, unwrap_or}
-use Rattle.bench.specs.Model.{State, Tally}
+use Rattle.std.specs.Prelude.{ℕ, ◌+◌, ◌*◌, ◌≤◌, Bool, List, ℤ, pos, nat_le, slice_index_or, unsigned_abs}
+use Rattle.bench.specs.Model.{Tally}
 use Rattle.operators.specs.Tallies.{added, scaled}
 
--- the tally in a place of a slate; no cells where the place is empty
-abbrev pub tally_of : State Tally → ℕ → Tally
-tally_of s k = unwrap_or (s.content k) (record { cells = []; weight = 0 })
+-- a tally's weight is 0 to 1,000
+abbrev pub lawful_weight : Tally → Bool
+lawful_weight t = nat_le t.weight 1000
 
--- a weight is 0 to 1,000
-abbrev pub lawful_weight : ℕ → Bool
-lawful_weight weight = nat_le weight 1000
+-- A lawful weight, and no cell exceeds weight × top in size.
+pub record WithinWeight (top : ℕ) (t : Tally) : Type 0 where
+  pub weight : t.weight ≤ 1000
+  pub cells : (k : ℕ) → unsigned_abs (slice_index_or t.cells k (pos 0)) ≤ t.weight * top
 
 -- the heights of a sheet minus those of another weigh 1
 abbrev pub difference : List ℤ → Tally

@@ -1,6 +1,6 @@
 -- Worked runs: calls in a row, each with the answer that it has to get, so that each table of refusals is met in its order.
 -- Assumes nothing.
-use Rattle.std.specs.Prelude.{◌≡◌, ℕ, Bool, true, false, ◌&&◌, List, [], ◌∷◌, ◌++◌, map, ℤ, pos, neg_ℤ, Some, None, Ok, Err, Result, Option, ◌==◌, refl}
+use Rattle.std.specs.Prelude.{◌≡◌, ℕ, Bool, true, false, ◌&&◌, List, [], ◌∷◌, ◌++◌, map, replicate, ℤ, pos, neg_ℤ, Some, Ok, Err, Result, ◌==◌, refl}
 use Rattle.model.specs.Steps.{Bench, BenchSizes, answer, bench_opened, step}
 use Rattle.std.specs.Ordering.{int_eq}
 use lib.Pointwise.{pointwise}
@@ -8,7 +8,8 @@ use Rattle.elements.specs.declared.element.Element.{Element}
 use Rattle.elements.specs.BuiltIns.{about_centre}
 use Rattle.std.proofs.Common.{lit≤}
 use Rattle.limits.specs.declared.fault.Fault.{Fault}
-use Rattle.limits.specs.Faults.{fault_number}
+use Rattle.limits.specs.Faults.{fault_number, refusal_number}
+use Rattle.bench.specs.Calls.{begin_refusal, end_refusal}
 use Rattle.bench.specs.Model.{Outline}
 use Rattle.model.specs.Calls.{Call, Begin, End, Load, Erode, Dilate, Open, Close, Meet, Join, Regrow, Edge, Peak, Valley, Differ, Add, Scale, Area, Span, Spectrum, Skeleton, ShowSheet, ShowTally, Told, NothingTold, SlipTold, RoundsTold, AreaTold, SpanTold, SpectrumTold, SkeletonTold, SheetTold, TallyTold}
 use Rattle.model.specs.TallyCalls.{difference_refusal}
@@ -37,9 +38,9 @@ abbrev all_right : Bench → List (Call ℕ × List ℤ) → Bool
 all_right b [] = true
 all_right b (turn ∷ turns) = pointwise int_eq (answer_numbers (answer b turn.0)) turn.1 && all_right (step b turn.0) turns
 
--- The element of (0, 0) and (1, 0), as its flags.
-abbrev pairs : Element
-pairs = record {
+-- The element of the two offsets (0, 0) and (1, 0), by its flags.
+abbrev two_cells : Element
+two_cells = record {
   flags = about_centre (false ∷ false ∷ false ∷ []) (false ∷ true ∷ true ∷ []) (false ∷ false ∷ false ∷ []);
   square = refl;
   centre = refl;
@@ -63,28 +64,28 @@ longer = record {
 abbrev without_visit : List (Call ℕ × List ℤ)
 without_visit =
     (Load 4 (1 ∷ []), refused 4) ∷ (Load 4 (1 ∷ 2 ∷ []), refused 5) ∷ (Load 1 (1 ∷ 2 ∷ []), refused 31)
-    ∷ (Erode pairs 4 1, refused 5) ∷ (Erode pairs 1 0, refused 5) ∷ (Erode pairs 1 2, refused 31)
-    ∷ (Dilate pairs 4 1, refused 5) ∷ (Dilate pairs 1 0, refused 5) ∷ (Dilate pairs 1 2, refused 31)
-    ∷ (Open pairs 65 4 1, refused 5) ∷ (Open pairs 65 1 4, refused 5) ∷ (Open pairs 65 1 2, refused 7)
-    ∷ (Open pairs 0 1 2, refused 7) ∷ (Open pairs 64 1 2, refused 31)
-    ∷ (Close pairs 65 4 1, refused 5) ∷ (Close pairs 65 1 4, refused 5) ∷ (Close pairs 65 1 2, refused 7)
-    ∷ (Close pairs 0 1 2, refused 7) ∷ (Close pairs 64 1 2, refused 31)
+    ∷ (Erode two_cells 4 1, refused 5) ∷ (Erode two_cells 1 0, refused 5) ∷ (Erode two_cells 1 2, refused 31)
+    ∷ (Dilate two_cells 4 1, refused 5) ∷ (Dilate two_cells 1 0, refused 5) ∷ (Dilate two_cells 1 2, refused 31)
+    ∷ (Open two_cells 65 4 1, refused 5) ∷ (Open two_cells 65 1 4, refused 5) ∷ (Open two_cells 65 1 2, refused 7)
+    ∷ (Open two_cells 0 1 2, refused 7) ∷ (Open two_cells 64 1 2, refused 31)
+    ∷ (Close two_cells 65 4 1, refused 5) ∷ (Close two_cells 65 1 4, refused 5) ∷ (Close two_cells 65 1 2, refused 7)
+    ∷ (Close two_cells 0 1 2, refused 7) ∷ (Close two_cells 64 1 2, refused 31)
     ∷ (Meet 4 1 2, refused 5) ∷ (Meet 1 4 2, refused 5) ∷ (Meet 1 2 4, refused 5) ∷ (Meet 1 2 3, refused 31)
     ∷ (Join 4 1 2, refused 5) ∷ (Join 1 4 2, refused 5) ∷ (Join 1 2 4, refused 5) ∷ (Join 1 2 3, refused 31)
-    ∷ (Regrow pairs 4 1 2, refused 5) ∷ (Regrow pairs 1 4 2, refused 5) ∷ (Regrow pairs 1 2 4, refused 5)
-    ∷ (Regrow pairs 1 2 3, refused 31)
-    ∷ (Edge pairs 4 3, refused 5) ∷ (Edge pairs 1 3, refused 6) ∷ (Edge pairs 1 2, refused 31)
-    ∷ (Peak pairs 4 3, refused 5) ∷ (Peak pairs 1 3, refused 6) ∷ (Peak pairs 1 2, refused 31)
-    ∷ (Valley pairs 4 3, refused 5) ∷ (Valley pairs 1 3, refused 6) ∷ (Valley pairs 1 2, refused 31)
+    ∷ (Regrow two_cells 4 1 2, refused 5) ∷ (Regrow two_cells 1 4 2, refused 5) ∷ (Regrow two_cells 1 2 4, refused 5)
+    ∷ (Regrow two_cells 1 2 3, refused 31)
+    ∷ (Edge two_cells 4 3, refused 5) ∷ (Edge two_cells 1 3, refused 6) ∷ (Edge two_cells 1 2, refused 31)
+    ∷ (Peak two_cells 4 3, refused 5) ∷ (Peak two_cells 1 3, refused 6) ∷ (Peak two_cells 1 2, refused 31)
+    ∷ (Valley two_cells 4 3, refused 5) ∷ (Valley two_cells 1 3, refused 6) ∷ (Valley two_cells 1 2, refused 31)
     ∷ (Differ 4 1 3, refused 5) ∷ (Differ 1 4 3, refused 5) ∷ (Differ 1 2 3, refused 6) ∷ (Differ 1 2 1, refused 31)
     ∷ (Add 3 1 1, refused 6) ∷ (Add 1 3 1, refused 6) ∷ (Add 1 2 3, refused 6) ∷ (Add 1 2 1, refused 31)
     ∷ (Scale (pos 101) 3 1, refused 6) ∷ (Scale (pos 101) 1 3, refused 6) ∷ (Scale (pos 101) 1 2, refused 9)
     ∷ (Scale (neg_ℤ (pos 101)) 1 2, refused 9) ∷ (Scale (neg_ℤ (pos 100)) 1 2, refused 31)
     ∷ (Area 4, refused 5) ∷ (Area 1, refused 31) ∷ (Span 4, refused 5) ∷ (Span 1, refused 31)
-    ∷ (Spectrum pairs 65 4 0, refused 5) ∷ (Spectrum pairs 65 1 0, refused 7) ∷ (Spectrum pairs 64 1 128, refused 8)
-    ∷ (Spectrum pairs 64 1 129, refused 31)
-    ∷ (Skeleton pairs 0 4 0, refused 5) ∷ (Skeleton pairs 0 1 0, refused 7) ∷ (Skeleton pairs 2 1 5, refused 8)
-    ∷ (Skeleton pairs 64 1 130, refused 31)
+    ∷ (Spectrum two_cells 65 4 0, refused 5) ∷ (Spectrum two_cells 65 1 0, refused 7) ∷ (Spectrum two_cells 64 1 128, refused 8)
+    ∷ (Spectrum two_cells 64 1 129, refused 31)
+    ∷ (Skeleton two_cells 0 4 0, refused 5) ∷ (Skeleton two_cells 0 1 0, refused 7) ∷ (Skeleton two_cells 65 1 132, refused 7) ∷ (Skeleton two_cells 2 1 5, refused 8)
+    ∷ (Skeleton two_cells 64 1 130, refused 31)
     ∷ (ShowSheet 4 1, refused 4) ∷ (ShowSheet 4 2, refused 5) ∷ (ShowSheet 1 2, refused 31)
     ∷ (ShowTally 3 1, refused 4) ∷ (ShowTally 3 2, refused 6) ∷ (ShowTally 1 2, refused 31)
     ∷ (End 7, refused 31) ∷ (Begin 0, refused 11) ∷ (Begin 10000, refused 11) ∷ []
@@ -93,22 +94,23 @@ without_visit =
 abbrev empty_places : List (Call ℕ × List ℤ)
 empty_places =
     (Begin 7, pos 7 ∷ []) ∷ (Begin 0, refused 11) ∷ (Begin 8, refused 32) ∷ (End 8, refused 33)
-    ∷ (Erode pairs 1 2, refused 34) ∷ (Dilate pairs 1 2, refused 34) ∷ (Open pairs 1 1 2, refused 34)
-    ∷ (Close pairs 1 1 2, refused 34) ∷ (Edge pairs 1 1, refused 34) ∷ (Peak pairs 1 1, refused 34)
-    ∷ (Valley pairs 1 1, refused 34)
-    ∷ (Area 1, refused 34) ∷ (Span 1, refused 34) ∷ (Spectrum pairs 1 1 3, refused 34)
-    ∷ (Skeleton pairs 1 1 4, refused 34) ∷ (ShowSheet 1 2, refused 34) ∷ (ShowTally 1 2, refused 35)
+    ∷ (Erode two_cells 1 2, refused 34) ∷ (Dilate two_cells 1 2, refused 34) ∷ (Open two_cells 1 1 2, refused 34)
+    ∷ (Close two_cells 1 1 2, refused 34) ∷ (Edge two_cells 1 1, refused 34) ∷ (Peak two_cells 1 1, refused 34)
+    ∷ (Valley two_cells 1 1, refused 34)
+    ∷ (Area 1, refused 34) ∷ (Span 1, refused 34) ∷ (Spectrum two_cells 1 1 3, refused 34)
+    ∷ (Skeleton two_cells 1 1 4, refused 34) ∷ (ShowSheet 1 2, refused 34) ∷ (ShowTally 1 2, refused 35)
     ∷ (Scale (pos 0) 1 2, refused 35) ∷ (Add 1 2 1, refused 35)
     ∷ (Load 1 (3 ∷ 5 ∷ []), [])
     ∷ (Meet 1 3 2, refused 34) ∷ (Meet 3 1 2, refused 34) ∷ (Join 1 3 2, refused 34) ∷ (Join 3 1 2, refused 34)
-    ∷ (Regrow pairs 1 3 2, refused 34) ∷ (Regrow pairs 3 1 2, refused 34)
+    ∷ (Regrow two_cells 1 3 2, refused 34) ∷ (Regrow two_cells 3 1 2, refused 34)
     ∷ (Differ 1 3 1, refused 34) ∷ (Differ 3 1 1, refused 34) ∷ (Differ 1 1 1, []) ∷ (Add 1 2 1, refused 35)
     ∷ (Add 2 1 1, refused 35) ∷ (Scale (pos 1) 2 1, refused 35) ∷ []
 
 -- Then calls are accepted, with weights up to their limit, until the end empties the bench.
 abbrev accepted : List (Call ℕ × List ℤ)
 accepted =
-    (Load 2 (4 ∷ 1 ∷ []), []) ∷ (Meet 1 2 3, []) ∷ (ShowSheet 3 2, pos 3 ∷ pos 1 ∷ []) ∷ (Join 1 2 3, [])
+    (Spectrum two_cells 64 1 129, replicate 64 (pos 0) ++ (pos 2 ∷ pos 6 ∷ replicate 63 (pos 0)))
+    ∷ (Load 2 (4 ∷ 1 ∷ []), []) ∷ (Meet 1 2 3, []) ∷ (ShowSheet 3 2, pos 3 ∷ pos 1 ∷ []) ∷ (Join 1 2 3, [])
     ∷ (ShowSheet 3 2, pos 4 ∷ pos 5 ∷ [])
     ∷ (Area 3, pos 9 ∷ []) ∷ (Span 3, pos 0 ∷ pos 0 ∷ pos 4 ∷ pos 1 ∷ pos 0 ∷ pos 5 ∷ [])
     ∷ (Differ 1 2 1, []) ∷ (ShowTally 1 2, pos 1 ∷ neg_ℤ (pos 1) ∷ pos 4 ∷ []) ∷ (Add 1 1 2, [])
@@ -124,22 +126,22 @@ accepted =
 abbrev on_a_line : List (Call ℕ × List ℤ)
 on_a_line =
     (Begin 9999, pos 9999 ∷ []) ∷ (Load 1 (0 ∷ 2 ∷ 1 ∷ 2 ∷ 0 ∷ []), []) ∷ (Load 3 (1 ∷ 1 ∷ 0 ∷ 0 ∷ 0 ∷ []), [])
-    ∷ (Erode pairs 1 2, []) ∷ (ShowSheet 2 5, pos 0 ∷ pos 1 ∷ pos 1 ∷ pos 0 ∷ pos 0 ∷ [])
+    ∷ (Erode two_cells 1 2, []) ∷ (ShowSheet 2 5, pos 0 ∷ pos 1 ∷ pos 1 ∷ pos 0 ∷ pos 0 ∷ [])
     ∷ (ShowSheet 1 5, pos 0 ∷ pos 2 ∷ pos 1 ∷ pos 2 ∷ pos 0 ∷ [])
-    ∷ (Dilate pairs 1 2, []) ∷ (ShowSheet 2 5, pos 0 ∷ pos 2 ∷ pos 2 ∷ pos 2 ∷ pos 2 ∷ [])
-    ∷ (Open pairs 1 1 2, []) ∷ (ShowSheet 2 5, pos 0 ∷ pos 1 ∷ pos 1 ∷ pos 1 ∷ pos 0 ∷ []) ∷ (Close pairs 1 1 2, [])
+    ∷ (Dilate two_cells 1 2, []) ∷ (ShowSheet 2 5, pos 0 ∷ pos 2 ∷ pos 2 ∷ pos 2 ∷ pos 2 ∷ [])
+    ∷ (Open two_cells 1 1 2, []) ∷ (ShowSheet 2 5, pos 0 ∷ pos 1 ∷ pos 1 ∷ pos 1 ∷ pos 0 ∷ []) ∷ (Close two_cells 1 1 2, [])
     ∷ (ShowSheet 2 5, pos 0 ∷ pos 2 ∷ pos 2 ∷ pos 2 ∷ pos 2 ∷ [])
-    ∷ (Open pairs 2 3 2, []) ∷ (ShowSheet 2 5, pos 0 ∷ pos 0 ∷ pos 0 ∷ pos 0 ∷ pos 0 ∷ []) ∷ (Close pairs 2 3 2, [])
+    ∷ (Open two_cells 2 3 2, []) ∷ (ShowSheet 2 5, pos 0 ∷ pos 0 ∷ pos 0 ∷ pos 0 ∷ pos 0 ∷ []) ∷ (Close two_cells 2 3 2, [])
     ∷ (ShowSheet 2 5, pos 1 ∷ pos 1 ∷ pos 0 ∷ pos 0 ∷ pos 0 ∷ [])
-    ∷ (Edge pairs 1 1, []) ∷ (ShowTally 1 5, pos 1 ∷ pos 0 ∷ pos 1 ∷ pos 0 ∷ pos 2 ∷ pos 0 ∷ [])
-    ∷ (Peak pairs 1 1, []) ∷ (ShowTally 1 5, pos 1 ∷ pos 0 ∷ pos 1 ∷ pos 0 ∷ pos 1 ∷ pos 0 ∷ [])
-    ∷ (Peak pairs 3 2, []) ∷ (ShowTally 2 5, pos 1 ∷ pos 0 ∷ pos 0 ∷ pos 0 ∷ pos 0 ∷ pos 0 ∷ [])
-    ∷ (Valley pairs 1 2, []) ∷ (ShowTally 2 5, pos 1 ∷ pos 0 ∷ pos 0 ∷ pos 1 ∷ pos 0 ∷ pos 2 ∷ [])
-    ∷ (Load 3 (0 ∷ 2 ∷ 0 ∷ 0 ∷ 0 ∷ []), []) ∷ (Regrow pairs 3 1 2, pos 2 ∷ [])
-    ∷ (ShowSheet 2 5, pos 0 ∷ pos 2 ∷ pos 1 ∷ pos 1 ∷ pos 0 ∷ []) ∷ (Regrow pairs 1 3 2, pos 0 ∷ [])
+    ∷ (Edge two_cells 1 1, []) ∷ (ShowTally 1 5, pos 1 ∷ pos 0 ∷ pos 1 ∷ pos 0 ∷ pos 2 ∷ pos 0 ∷ [])
+    ∷ (Peak two_cells 1 1, []) ∷ (ShowTally 1 5, pos 1 ∷ pos 0 ∷ pos 1 ∷ pos 0 ∷ pos 1 ∷ pos 0 ∷ [])
+    ∷ (Peak two_cells 3 2, []) ∷ (ShowTally 2 5, pos 1 ∷ pos 0 ∷ pos 0 ∷ pos 0 ∷ pos 0 ∷ pos 0 ∷ [])
+    ∷ (Valley two_cells 1 2, []) ∷ (ShowTally 2 5, pos 1 ∷ pos 0 ∷ pos 0 ∷ pos 1 ∷ pos 0 ∷ pos 2 ∷ [])
+    ∷ (Load 3 (0 ∷ 2 ∷ 0 ∷ 0 ∷ 0 ∷ []), []) ∷ (Regrow two_cells 3 1 2, pos 2 ∷ [])
+    ∷ (ShowSheet 2 5, pos 0 ∷ pos 2 ∷ pos 1 ∷ pos 1 ∷ pos 0 ∷ []) ∷ (Regrow two_cells 1 3 2, pos 0 ∷ [])
     ∷ (ShowSheet 2 5, pos 0 ∷ pos 2 ∷ pos 0 ∷ pos 0 ∷ pos 0 ∷ [])
-    ∷ (Spectrum pairs 2 1 5, pos 0 ∷ pos 3 ∷ pos 2 ∷ pos 0 ∷ pos 3 ∷ [])
-    ∷ (Skeleton pairs 2 1 15, pos 0 ∷ pos 1 ∷ pos 0 ∷ pos 1 ∷ pos 0 ∷ pos 0 ∷ pos 0 ∷ pos 0 ∷ pos 0 ∷ pos 0 ∷ pos 0 ∷ pos 1 ∷ pos 0 ∷ pos 0 ∷ pos 0 ∷ [])
+    ∷ (Spectrum two_cells 2 1 5, pos 0 ∷ pos 3 ∷ pos 2 ∷ pos 0 ∷ pos 3 ∷ [])
+    ∷ (Skeleton two_cells 2 1 15, pos 0 ∷ pos 1 ∷ pos 0 ∷ pos 1 ∷ pos 0 ∷ pos 0 ∷ pos 0 ∷ pos 0 ∷ pos 0 ∷ pos 0 ∷ pos 0 ∷ pos 1 ∷ pos 0 ∷ pos 0 ∷ pos 0 ∷ [])
     ∷ (Area 1, pos 5 ∷ []) ∷ (Span 1, pos 0 ∷ pos 0 ∷ pos 0 ∷ pos 1 ∷ pos 0 ∷ pos 2 ∷ []) ∷ (End 9999, [])
     ∷ (Area 1, refused 31) ∷ []
 
@@ -161,18 +163,18 @@ wrong = record {
 abbrev in_visit : ℕ → Bool → Outline
 in_visit flat filled = record { w = 2; h = 1; places = 1; visit = Some flat; filled = λ k. filled }
 
--- the number of a refusal, 0 for none
-abbrev number : Option Fault → ℕ
-number None = 0
-number (Some fault) = fault_number fault
-
--- All calls get their answers. Last a tally of a sheet, where the slate is in another visit.
+-- All calls get their answers. Last what no run of one bench meets: a rack and a slate in different visits or of different sides, at a
+-- tally of a sheet, at end and at begin.
 abbrev pub RunsAreRight : Type 0
 RunsAreRight =
     (all_right (bench_opened small) (without_visit ++ (empty_places ++ accepted))
     && all_right (bench_opened longer) on_a_line
     && all_right (bench_opened unequal) ((Begin 0, refused 11) ∷ (Begin 7, refused 37) ∷ [])
     && all_right (bench_opened wrong) ((Begin 7, pos 7 ∷ []) ∷ (Load 1 [], refused 5) ∷ (ShowTally 1 0, refused 6) ∷ (End 7, []) ∷ [])
-    && number (difference_refusal (in_visit 7 false) (in_visit 8 false) 1 1 1) == 34
-    && number (difference_refusal (in_visit 7 true) (in_visit 8 false) 1 1 1) == 37
-    && number (difference_refusal (in_visit 7 true) (in_visit 7 false) 1 1 1) == 0) ≡ true
+    && refusal_number (difference_refusal (in_visit 7 false) (in_visit 8 false) 1 1 1) == 34
+    && refusal_number (difference_refusal (in_visit 7 true) (in_visit 8 false) 1 1 1) == 37
+    && refusal_number (difference_refusal (in_visit 7 true) (in_visit 7 false) 1 1 1) == 0
+    && refusal_number (end_refusal (in_visit 7 false) (in_visit 8 false) 8) == 33
+    && refusal_number (end_refusal (in_visit 7 false) (in_visit 8 false) 7) == 37
+    && refusal_number (begin_refusal (in_visit 7 false) (bench_opened unequal).slate.outline 9) == 32
+    && refusal_number (begin_refusal (bench_opened small).rack.outline (in_visit 7 false) 9) == 32) ≡ true

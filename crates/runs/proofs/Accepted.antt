@@ -6,10 +6,10 @@ use Rattle.limits.specs.declared.fault.Fault.TheVariants.{EmptySheet, SheetPlace
 use Rattle.std.specs.Prelude.{◌==◌}
 use Rattle.model.specs.ListCalls.{depth_refusal}
 use Rattle.model.specs.SheetCalls.{sized_refusal}
-use Rattle.model.specs.TallyCalls.{add_refusal, difference_refusal, lawful_factor, scale_refusal}
+use Rattle.model.specs.TallyCalls.{add_refusal, difference_refusal, scale_refusal}
 use Rattle.limits.specs.Faults.{first, tells, told}
-use Rattle.limits.specs.Sizes.{lawful_size}
-use Rattle.bench.specs.Model.{Outline, is_place}
+use Rattle.limits.specs.Sizes.{lawful_flat, lawful_size, lawful_factor}
+use Rattle.bench.specs.Model.{Outline, Tally, is_place}
 use Rattle.bench.specs.Calls.{begin_refusal, equal_benches, make_refusal, same_visit}
 use Rattle.bench.proofs.Refusals.{make_accepted, source_accepted}
 
@@ -62,22 +62,22 @@ difference_sources rack slate one other to h =
     (record { visit = visit.0; one_filled = both.0; other_filled = both.1 }, open_alike rack.visit slate.visit (and_parts _ _ equal.0).1 visit.0)
 
 -- a tally is made on an open slate, and is not too heavy
-pub add_light : (o : Outline) (weight one other to : ℕ) → add_refusal o weight one other to ≡ None → (is_some o.visit ≡ true) × (weight ≤ 1000)
-add_light o weight one other to h =
+pub add_light : (o : Outline) (sum : Tally) (one other to : ℕ) → add_refusal o sum one other to ≡ None → (is_some o.visit ≡ true) × (sum.weight ≤ 1000)
+add_light o sum one other to h =
     let places = passed (is_place o.places one && is_place o.places other && is_place o.places to) _ _ h in
     let visit = passed (is_some o.visit) _ _ places.1 in
     let filled = passed (o.filled one && o.filled other) _ _ visit.1 in
-    let light = passed (leb weight 1000) _ _ filled.1 in
-    (visit.0, leb-true weight 1000 light.0)
+    let light = passed (leb sum.weight 1000) _ _ filled.1 in
+    (visit.0, leb-true sum.weight 1000 light.0)
 
-pub scale_light : (o : Outline) (weight : ℕ) (factor : ℤ) (from to : ℕ) → scale_refusal o weight factor from to ≡ None → (is_some o.visit ≡ true) × (weight ≤ 1000)
-scale_light o weight factor from to h =
+pub scale_light : (o : Outline) (made : Tally) (factor : ℤ) (from to : ℕ) → scale_refusal o made factor from to ≡ None → (is_some o.visit ≡ true) × (made.weight ≤ 1000)
+scale_light o made factor from to h =
     let places = passed (is_place o.places from && is_place o.places to) _ _ h in
     let lawful = passed (lawful_factor factor) _ _ places.1 in
     let visit = passed (is_some o.visit) _ _ lawful.1 in
     let filled = passed (o.filled from) _ _ visit.1 in
-    let light = passed (leb weight 1000) _ _ filled.1 in
-    (visit.0, leb-true weight 1000 light.0)
+    let light = passed (leb made.weight 1000) _ _ filled.1 in
+    (visit.0, leb-true made.weight 1000 light.0)
 
 -- a list is told of a place that is filled, to a lawful depth
 pub record Listed (o : Outline) (depth place : ℕ) : Type 0 where
@@ -95,7 +95,7 @@ depth_listed o depth place len wanted h =
 -- no visit is open before a begin
 pub begin_closed : (rack slate : Outline) (flat : ℕ) → begin_refusal rack slate flat ≡ None → (rack.visit ≡ None) × (slate.visit ≡ None)
 begin_closed rack slate flat h =
-    let lawful = passed (leb 1 flat && leb flat 9999) _ _ h in
+    let lawful = passed (lawful_flat flat) _ _ h in
     neither rack.visit slate.visit lawful.1
   where
     neither : (a b : Option ℕ) → first (is_some a || is_some b) VisitOpen (first (not (equal_benches rack slate)) Unequal None) ≡ None → (a ≡ None) × (b ≡ None)

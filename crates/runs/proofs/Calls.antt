@@ -1,6 +1,6 @@
 -- Each call on a bench and on those of the masks: it is refused alike, and leaves and tells what is made up of what they leave and tell.
 -- Assumes nothing.
-use Rattle.std.proofs.Common.{◌≡◌, ℕ, ◌+◌, ◌*◌, ◌≤◌, max, cond, leb, true, map, length, is_some, None, ℤ, pos, ◌+ℤ◌, ◌*ℤ◌, sym, refl, ap, ◌∙◌}
+use Rattle.std.proofs.Common.{[], ◌≡◌, ℕ, ◌+◌, ◌*◌, ◌≤◌, max, cond, leb, true, map, length, is_some, None, ℤ, pos, ◌+ℤ◌, ◌*ℤ◌, sym, refl, ap, ◌∙◌}
 use Rattle.std.proofs.Math.IntN.{*ℤ-zero}
 use Rattle.std.specs.Prelude.{unsigned_abs}
 use Rattle.std.proofs.lemmas.List.{length-map}
@@ -10,7 +10,7 @@ use Rattle.morphology.specs.declared.operation.Operation.{Operation}
 use Rattle.morphology.specs.declared.operation.Operation.TheVariants.{Erosion, Dilation}
 use Rattle.morphology.specs.Cells.{cut, extreme_of, joined, met}
 use Rattle.morphology.specs.Sheets.{area}
-use Rattle.bench.specs.Model.{Tally, sheet_of}
+use Rattle.bench.specs.Model.{Tally, sheet_of, tally_of}
 use Rattle.bench.specs.Calls.{Making, begin_refusal, by_element, end_refusal, load_refusal, make_refusal, sheet_refusal}
 use Rattle.bench.proofs.Refusals.{load_accepted}
 use Rattle.calls.specs.Told.{show_sheet_refusal, show_tally_refusal, extreme_spot}
@@ -19,23 +19,24 @@ use Rattle.operators.specs.Reconstruction.{rounds}
 use Rattle.operators.specs.Skeletons.{skeleton}
 use Rattle.operators.specs.Spectra.{spectrum}
 use Rattle.laws.specs.Sums.{ListSum, greatest_to, sum_to}
-use Rattle.laws.proofs.ElementLaws.{dilation_and_erosion_inside_close, erosion_and_dilation_are_pair}
+use Rattle.laws.proofs.ElementLaws.{erosion_and_dilation_are_pair}
 use Rattle.laws.proofs.Skeletons.{pairs_restore}
-use Rattle.laws.proofs.Spectra.{pairs_have_spectra}
+use Rattle.laws.proofs.Spectra.{spectra_of_both}
+use Rattle.laws.specs.Spectra.{SpectrumLaws}
 use Rattle.laws.proofs.Sums.{list_fold_added, list_fold_kept, list_fold_same, over_same}
 use Rattle.laws.proofs.SumsOfCuts.{area_over_cuts, extreme_over_cuts, swap_int_sums}
 use Rattle.model.specs.Calls.{Call, Begin, End, Load, Erode, Dilate, Open, Close, Meet, Join, Regrow, Edge, Peak, Valley, Differ, Add, Scale, Area, Span, Spectrum, Skeleton, ShowSheet, ShowTally, SheetTold}
-use Rattle.model.specs.ByElement.{closing_by, opening_by, reconstruction_by, shrink, shrink_inside, swell}
+use Rattle.model.specs.ByElement.{closing_by, opening_by, reconstruction_by, shrink, close, swell}
 use Rattle.model.specs.ListCalls.{skeleton_refusal, spectrum_refusal}
 use Rattle.model.specs.SheetCalls.{sized_refusal}
 use Rattle.model.specs.Steps.{Bench}
 use Rattle.model.specs.TallyCalls.{add_refusal, difference_refusal, scale_refusal}
-use Rattle.model.specs.Weights.{multiple, sum_of_tallies, tally_of}
+use Rattle.model.specs.Weights.{multiple, sum_of_tallies, WithinWeight}
 use Rattle.runs.proofs.Parts.{difference_of, leaves, made_of, refusal, the_first, the_second, told_by, with_sheet, with_tally}
 use Rattle.runs.specs.Sums.{BenchSum, TallySum, ToldSum}
-use Rattle.runs.specs.Theorems.{WithinWeight, cut_at, in_heights}
+use Rattle.runs.specs.Theorems.{cut_at, in_heights}
 use Rattle.runs.proofs.Accepted.{Sources, add_light, difference_sources, depth_listed, make_sources, scale_light, sized_sources}
-use Rattle.runs.proofs.Makings.{CutMaking, closing_making, element_making, first_making, join_making, meet_making, opening_making, regrow_laws, regrow_making, second_making}
+use Rattle.runs.proofs.Makings.{CutMaking, closing_making, closings_of, element_making, first_making, join_making, meet_making, opening_making, regrow_laws, regrow_making, second_making}
 use Rattle.runs.proofs.Multiples.{multiple_of_sum}
 use Rattle.runs.proofs.Reached.{Reached, begin_reached, end_reached, picture_topped, sheet_reached, tally_reached}
 use Rattle.runs.proofs.Stored.{begin_sum, difference_sum, end_sum, made_cut, made_of_topped, made_sized, sheet_sum, tally_sum}
@@ -59,6 +60,10 @@ multiple_sum top factor t ts one = record {
   cells = list_fold_kept ◌+ℤ◌ (pos 0) (λ x. factor *ℤ x) (*ℤ-zero factor) (multiple_of_sum factor) top t.cells (λ a. (ts a).cells) one.cells;
 }
 
+-- the laws of the spectra by an element
+pub spectra_of : (e : Element) (w h : ℕ) → SpectrumLaws (w * h) (close e w h) (shrink e w h) (swell e w h)
+spectra_of e w h = spectra_of_both (w * h) (close e w h) (shrink e w h) (swell e w h) (closings_of e w h) (erosion_and_dilation_are_pair e w h)
+
 module _ {X : Type 0} (height : X → ℕ) (top : ℕ) (bounded : (x : X) → height x ≤ top) (start b : Bench) (bs : ℕ → Bench) (g : Goes top start b bs) where
   -- every call is refused alike
   pub refused_alike : (c : Call X) (a : ℕ) → 1 ≤ a → refusal (bs a) (cut_at height a c) ≡ refusal b (in_heights height c)
@@ -76,8 +81,8 @@ module _ {X : Type 0} (height : X → ℕ) (top : ℕ) (bounded : (x : X) → he
   refused_alike (Peak e from to) a low = λ i. difference_refusal (g.sum.rack a low i) (g.sum.slate a low i) from from to
   refused_alike (Valley e from to) a low = λ i. difference_refusal (g.sum.rack a low i) (g.sum.slate a low i) from from to
   refused_alike (Differ one other to) a low = λ i. difference_refusal (g.sum.rack a low i) (g.sum.slate a low i) one other to
-  refused_alike (Add one other to) a low = λ i. add_refusal (g.sum.slate a low i) ((g.sum.tallies one).weight a low i + (g.sum.tallies other).weight a low i) one other to
-  refused_alike (Scale factor from to) a low = λ i. scale_refusal (g.sum.slate a low i) (unsigned_abs factor * (g.sum.tallies from).weight a low i) factor from to
+  refused_alike (Add one other to) a low = λ i. add_refusal (g.sum.slate a low i) (record { cells = []; weight = (g.sum.tallies one).weight a low i + (g.sum.tallies other).weight a low i }) one other to
+  refused_alike (Scale factor from to) a low = λ i. scale_refusal (g.sum.slate a low i) (record { cells = []; weight = unsigned_abs factor * (g.sum.tallies from).weight a low i }) factor from to
   refused_alike (Area place) a low = ap (λ o. sheet_refusal o place) (g.sum.rack a low)
   refused_alike (Span place) a low = ap (λ o. sheet_refusal o place) (g.sum.rack a low)
   refused_alike (Spectrum e depth place len) a low = ap (λ o. spectrum_refusal o depth place len) (g.sum.rack a low)
@@ -126,12 +131,12 @@ module _ {X : Type 0} (height : X → ℕ) (top : ℕ) (bounded : (x : X) → he
   leaves_goes (Valley e from to) h = difference_goes (closing_by e 1) the_first (closing_making e 1) first_making from from to (difference_sources b.rack.outline b.slate.outline from from to h)
   leaves_goes (Differ one other to) h = difference_goes the_first the_second first_making second_making one other to (difference_sources b.rack.outline b.slate.outline one other to h)
   leaves_goes (Add one other to) h =
-      let light = add_light b.slate.outline (sum_of_tallies (tally_of b.slate one) (tally_of b.slate other)).weight one other to h in
+      let light = add_light b.slate.outline (sum_of_tallies (tally_of b.slate one) (tally_of b.slate other)) one other to h in
       tally_goes to (sum_of_tallies (tally_of b.slate one) (tally_of b.slate other)) (λ a. sum_of_tallies (tally_of (bs a).slate one) (tally_of (bs a).slate other))
       (sum_of_tallies_sum top (tally_of b.slate one) (tally_of b.slate other) (λ a. tally_of (bs a).slate one) (λ a. tally_of (bs a).slate other) (g.sum.tallies one) (g.sum.tallies other))
       light.0 (sum_within top (tally_of b.slate one) (tally_of b.slate other) (g.reached.tallies one) (g.reached.tallies other) light.1)
   leaves_goes (Scale factor from to) h =
-      let light = scale_light b.slate.outline (multiple factor (tally_of b.slate from)).weight factor from to h in
+      let light = scale_light b.slate.outline (multiple factor (tally_of b.slate from)) factor from to h in
       tally_goes to (multiple factor (tally_of b.slate from)) (λ a. multiple factor (tally_of (bs a).slate from))
       (multiple_sum top factor (tally_of b.slate from) (λ a. tally_of (bs a).slate from) (g.sum.tallies from))
       light.0 (multiple_within top factor (tally_of b.slate from) (g.reached.tallies from) light.1)
@@ -155,11 +160,11 @@ module _ {X : Type 0} (height : X → ℕ) (top : ℕ) (bounded : (x : X) → he
       (regrow_laws e w tall).most_rounds top (sheet_of b.rack marker) (sheet_of b.rack upper) (g.reached.held.sized marker src.one_filled) (g.reached.held.sized upper src.other_filled) (g.reached.held.topped upper)
       ∙ over_same max 0 top _ _ (λ a low. (λ i. rounds (swell e (sym (g.sum.rack a low) i).w (sym (g.sum.rack a low) i).h) (sym (g.sum.sheets a marker low) i) (sym (g.sum.sheets a upper low) i)))
 
-  spectrum_told : (e : Element) (depth place : ℕ) → b.rack.outline.filled place ≡ true → ListSum top (spectrum (shrink e w tall) (swell e w tall) (shrink_inside e w tall) depth (sheet_of b.rack place))
-      (λ a. spectrum (shrink e (bs a).rack.outline.w (bs a).rack.outline.h) (swell e (bs a).rack.outline.w (bs a).rack.outline.h) (shrink_inside e (bs a).rack.outline.w (bs a).rack.outline.h) depth (sheet_of (bs a).rack place))
+  spectrum_told : (e : Element) (depth place : ℕ) → b.rack.outline.filled place ≡ true → ListSum top (spectrum (close e w tall) (shrink e w tall) (swell e w tall) depth (sheet_of b.rack place))
+      (λ a. spectrum (close e (bs a).rack.outline.w (bs a).rack.outline.h) (shrink e (bs a).rack.outline.w (bs a).rack.outline.h) (swell e (bs a).rack.outline.w (bs a).rack.outline.h) depth (sheet_of (bs a).rack place))
   spectrum_told e depth place filled = list_fold_same ◌+◌ 0 top _ _ _
-      (λ a low. (λ i. spectrum (shrink e (sym (g.sum.rack a low) i).w (sym (g.sum.rack a low) i).h) (swell e (sym (g.sum.rack a low) i).w (sym (g.sum.rack a low) i).h) (shrink_inside e (sym (g.sum.rack a low) i).w (sym (g.sum.rack a low) i).h) depth (sym (g.sum.sheets a place low) i)))
-      ((pairs_have_spectra (w * tall) (shrink e w tall) (swell e w tall) (shrink_inside e w tall) (erosion_and_dilation_are_pair e w tall) (dilation_and_erosion_inside_close e w tall)).sums top depth (sheet_of b.rack place) (g.reached.held.sized place filled) (g.reached.held.topped place))
+      (λ a low. (λ i. spectrum (close e (sym (g.sum.rack a low) i).w (sym (g.sum.rack a low) i).h) (shrink e (sym (g.sum.rack a low) i).w (sym (g.sum.rack a low) i).h) (swell e (sym (g.sum.rack a low) i).w (sym (g.sum.rack a low) i).h) depth (sym (g.sum.sheets a place low) i)))
+      ((spectra_of e w tall).sums top depth (sheet_of b.rack place) (g.reached.held.sized place filled) (g.reached.held.topped place))
 
   skeleton_told : (e : Element) (depth place : ℕ) → b.rack.outline.filled place ≡ true → ListSum top (skeleton (shrink e w tall) (swell e w tall) depth (sheet_of b.rack place))
       (λ a. skeleton (shrink e (bs a).rack.outline.w (bs a).rack.outline.h) (swell e (bs a).rack.outline.w (bs a).rack.outline.h) depth (sheet_of (bs a).rack place))
@@ -202,7 +207,7 @@ module _ {X : Type 0} (height : X → ℕ) (top : ℕ) (bounded : (x : X) → he
     extreme_told Dilation place,
   )
   told_sum (Spectrum e depth place len) h = (
-    (λ a. spectrum (shrink e (bs a).rack.outline.w (bs a).rack.outline.h) (swell e (bs a).rack.outline.w (bs a).rack.outline.h) (shrink_inside e (bs a).rack.outline.w (bs a).rack.outline.h) depth (sheet_of (bs a).rack place)),
+    (λ a. spectrum (close e (bs a).rack.outline.w (bs a).rack.outline.h) (shrink e (bs a).rack.outline.w (bs a).rack.outline.h) (swell e (bs a).rack.outline.w (bs a).rack.outline.h) depth (sheet_of (bs a).rack place)),
     (λ a low. refl),
     spectrum_told e depth place (depth_listed b.rack.outline depth place len _ h).filled,
   )

@@ -6,6 +6,6 @@ pub mod Multiples
 pub mod Weights
 pub mod Reached
 pub mod Calls
-pub mod FirstByNumber
+pub mod FirstInOrder
 pub mod Runs
 pub mod RunLaws

@@ -7,7 +7,8 @@ use Rattle.morphology.specs.declared.operation.Operation.TheVariants.{Erosion, D
 use Rattle.morphology.specs.Cells.{cut, joined, met}
 use Rattle.morphology.specs.Erosion.{dilated, eroded}
 use Rattle.bench.specs.Calls.{Making, by_element}
-use Rattle.operators.specs.Closings.{closing}
+use Rattle.operators.specs.Closings.{eroded_inside}
+use Rattle.laws.specs.Closings.{ClosingLaws}
 use Rattle.laws.specs.Maps.{FlatOperator}
 use Rattle.operators.specs.Openings.{opening}
 use Rattle.laws.specs.Reconstruction.{ReconstructionLaws}
@@ -19,7 +20,7 @@ use Rattle.laws.proofs.ElementLaws.{dilation_and_erosion_inside_close, erosion_a
 use Rattle.laws.proofs.Maps.{flat_same}
 use Rattle.laws.proofs.Openings.{pairs_open}
 use Rattle.laws.proofs.Reconstruction.{pairs_reconstruct}
-use Rattle.model.specs.ByElement.{closing_by, opening_by, reconstruction_by, shrink, shrink_inside, swell}
+use Rattle.model.specs.ByElement.{closing_by, opening_by, reconstruction_by, shrink, close, swell}
 use Rattle.runs.proofs.Parts.{the_first, the_second}
 
 -- sheets of any sides make sheets of these sides, and cuts make the cut
@@ -47,8 +48,11 @@ element_making Dilation e = flat_making (λ w h. dilated w h (offsets e)) (λ w 
 pub opening_making : (e : Element) (size : ℕ) → CutMaking (opening_by e size)
 opening_making e size = flat_making (λ w h. opening (shrink e w h) (swell e w h) size) (λ w h. (pairs_open (w * h) (shrink e w h) (swell e w h) (erosion_and_dilation_are_pair e w h)).flat size)
 
+pub closings_of : (e : Element) (w h : ℕ) → ClosingLaws (w * h) (close e w h)
+closings_of e w h = pairs_close (w * h) (dilated w h (offsets e)) (eroded_inside w h (offsets e)) (dilation_and_erosion_inside_close e w h)
+
 pub closing_making : (e : Element) (size : ℕ) → CutMaking (closing_by e size)
-closing_making e size = flat_making (λ w h. closing (swell e w h) (shrink_inside e w h) size) (λ w h. (pairs_close (w * h) (swell e w h) (shrink_inside e w h) (dilation_and_erosion_inside_close e w h)).flat size)
+closing_making e size = flat_making (λ w h. close e w h size) (λ w h. (closings_of e w h).flat size)
 
 pub meet_making : CutMaking (λ w h. met)
 meet_making = record {

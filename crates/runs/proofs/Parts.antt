@@ -3,24 +3,24 @@
 use Rattle.std.proofs.Common.{◌≡◌, ℕ, List, length, Some, None, Option, refl}
 use Rattle.elements.specs.Elements.{offsets}
 use Rattle.limits.specs.declared.fault.Fault.{Fault}
-use Rattle.limits.specs.Faults.{tells, told, unless}
+use Rattle.limits.specs.Faults.{tells, unless}
 use Rattle.morphology.specs.declared.operation.Operation.TheVariants.{Erosion, Dilation}
 use Rattle.morphology.specs.Cells.{joined, met}
 use Rattle.morphology.specs.Sheets.{area}
-use Rattle.bench.specs.Model.{State, Tally, sheet_of}
+use Rattle.bench.specs.Model.{State, Tally, sheet_of, tally_of}
 use Rattle.bench.specs.Calls.{Making, begin_refusal, by_element, end_refusal, ended, load_refusal, make_refusal, sheet_refusal, stored, visited}
 use Rattle.calls.specs.Told.{extreme_spot, show_sheet_refusal, show_tally_refusal}
 use Rattle.operators.specs.Reconstruction.{rounds}
 use Rattle.operators.specs.Skeletons.{skeleton}
 use Rattle.operators.specs.Spectra.{spectrum}
 use Rattle.operators.specs.Tallies.{differed}
-use Rattle.model.specs.ByElement.{closing_by, opening_by, reconstruction_by, shrink, shrink_inside, swell}
+use Rattle.model.specs.ByElement.{close, closing_by, opening_by, reconstruction_by, shrink, swell}
 use Rattle.model.specs.Calls.{Call, Begin, End, Load, Erode, Dilate, Open, Close, Meet, Join, Regrow, Edge, Peak, Valley, Differ, Add, Scale, Area, Span, Spectrum, Skeleton, ShowSheet, ShowTally, Told, NothingTold, SlipTold, RoundsTold, AreaTold, SpanTold, SpectrumTold, SkeletonTold, SheetTold, TallyTold}
 use Rattle.model.specs.ListCalls.{skeleton_refusal, spectrum_refusal}
-use Rattle.model.specs.SheetCalls.{sized_refusal}
-use Rattle.model.specs.Steps.{Bench, answer, nothing, step, telling, with_rack, with_slate}
-use Rattle.model.specs.TallyCalls.{add_refusal, difference_refusal, scale_refusal}
-use Rattle.model.specs.Weights.{difference, multiple, sum_of_tallies, tally_of}
+use Rattle.model.specs.SheetCalls.{close_refusal, open_refusal}
+use Rattle.model.specs.Steps.{Bench, answer, step, telling, with_rack, with_slate}
+use Rattle.model.specs.TallyCalls.{add_refusal, differ_refusal, edge_refusal, peak_refusal, scale_refusal, valley_refusal}
+use Rattle.model.specs.Weights.{difference, multiple, sum_of_tallies}
 
 -- of two sheets, the one and the other
 abbrev pub the_first : Making
@@ -50,17 +50,17 @@ refusal b (End flat) = end_refusal b.rack.outline b.slate.outline flat
 refusal b (Load place picture) = load_refusal b.rack.outline place (length picture)
 refusal b (Erode e from to) = make_refusal b.rack.outline from from to
 refusal b (Dilate e from to) = make_refusal b.rack.outline from from to
-refusal b (Open e size from to) = sized_refusal b.rack.outline size from to
-refusal b (Close e size from to) = sized_refusal b.rack.outline size from to
+refusal b (Open e size from to) = open_refusal b.rack.outline size from to
+refusal b (Close e size from to) = close_refusal b.rack.outline size from to
 refusal b (Meet one other to) = make_refusal b.rack.outline one other to
 refusal b (Join one other to) = make_refusal b.rack.outline one other to
 refusal b (Regrow e marker upper to) = make_refusal b.rack.outline marker upper to
-refusal b (Edge e from to) = difference_refusal b.rack.outline b.slate.outline from from to
-refusal b (Peak e from to) = difference_refusal b.rack.outline b.slate.outline from from to
-refusal b (Valley e from to) = difference_refusal b.rack.outline b.slate.outline from from to
-refusal b (Differ one other to) = difference_refusal b.rack.outline b.slate.outline one other to
-refusal b (Add one other to) = add_refusal b.slate.outline (sum_of_tallies (tally_of b.slate one) (tally_of b.slate other)).weight one other to
-refusal b (Scale factor from to) = scale_refusal b.slate.outline (multiple factor (tally_of b.slate from)).weight factor from to
+refusal b (Edge e from to) = edge_refusal b.rack.outline b.slate.outline from to
+refusal b (Peak e from to) = peak_refusal b.rack.outline b.slate.outline from to
+refusal b (Valley e from to) = valley_refusal b.rack.outline b.slate.outline from to
+refusal b (Differ one other to) = differ_refusal b.rack.outline b.slate.outline one other to
+refusal b (Add one other to) = add_refusal b.slate.outline (sum_of_tallies (tally_of b.slate one) (tally_of b.slate other)) one other to
+refusal b (Scale factor from to) = scale_refusal b.slate.outline (multiple factor (tally_of b.slate from)) factor from to
 refusal b (Area place) = sheet_refusal b.rack.outline place
 refusal b (Span place) = sheet_refusal b.rack.outline place
 refusal b (Spectrum e depth place len) = spectrum_refusal b.rack.outline depth place len
@@ -97,7 +97,7 @@ told_by b (Span place) =
 told_by b (Spectrum e depth place len) =
     let w = b.rack.outline.w in
     let h = b.rack.outline.h in
-    SpectrumTold (spectrum (shrink e w h) (swell e w h) (shrink_inside e w h) depth (sheet_of b.rack place))
+    SpectrumTold (spectrum (close e w h) (shrink e w h) (swell e w h) depth (sheet_of b.rack place))
 told_by b (Skeleton e depth place len) =
     let w = b.rack.outline.w in
     let h = b.rack.outline.h in
@@ -152,17 +152,10 @@ module _ (b : Bench) where
   tells_part tell None x = refl
   tells_part tell (Some fault) x = refl
 
-  nothing_part : (o : Option Fault) → telling nothing (told o) ≡ tells o NothingTold
-  nothing_part None = refl
-  nothing_part (Some fault) = refl
-
   pub answer_parts : (c : Call ℕ) → answer b c ≡ tells (refusal b c) (told_by b c)
-  answer_parts (Begin flat) = refl
   answer_parts (Regrow e marker upper to) = tells_part RoundsTold (refusal b (Regrow e marker upper to)) (rounds (swell e b.rack.outline.w b.rack.outline.h) (sheet_of b.rack marker) (sheet_of b.rack upper))
   answer_parts (Area place) = tells_part AreaTold (refusal b (Area place)) (area (sheet_of b.rack place))
   answer_parts (Span place) = tells_part (λ spots. SpanTold spots.0 spots.1) (refusal b (Span place)) (extreme_spot Erosion b.rack.outline.w (sheet_of b.rack place), extreme_spot Dilation b.rack.outline.w (sheet_of b.rack place))
-  answer_parts (Spectrum e depth place len) = tells_part SpectrumTold (refusal b (Spectrum e depth place len)) (spectrum (shrink e b.rack.outline.w b.rack.outline.h) (swell e b.rack.outline.w b.rack.outline.h) (shrink_inside e b.rack.outline.w b.rack.outline.h) depth (sheet_of b.rack place))
+  answer_parts (Spectrum e depth place len) = tells_part SpectrumTold (refusal b (Spectrum e depth place len)) (spectrum (close e b.rack.outline.w b.rack.outline.h) (shrink e b.rack.outline.w b.rack.outline.h) (swell e b.rack.outline.w b.rack.outline.h) depth (sheet_of b.rack place))
   answer_parts (Skeleton e depth place len) = tells_part SkeletonTold (refusal b (Skeleton e depth place len)) (skeleton (shrink e b.rack.outline.w b.rack.outline.h) (swell e b.rack.outline.w b.rack.outline.h) depth (sheet_of b.rack place))
-  answer_parts (ShowSheet place len) = refl
-  answer_parts (ShowTally place len) = refl
-  answer_parts call = nothing_part (refusal b call)
+  answer_parts call = refl

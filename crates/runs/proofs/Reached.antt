@@ -1,14 +1,14 @@
 -- What holds of every bench that a run reaches: the sizes it opened with, sheets of its sides and below the top, tallies within their
 -- weights, and, where no visit is open, the state that it opened with. Assumes nothing.
+use Rattle.model.specs.Weights.{WithinWeight}
 use Rattle.std.proofs.Common.{Bool, false, cond, eqb, unwrap_or, ◌≡◌, ℕ, ◌*◌, ◌≤◌, true, List, [], ◌∷◌, zero, suc, map, length, is_some, Some, None, Option, sym, refl, ap, arith}
 use Rattle.std.proofs.lemmas.Bool.{false≢true}
-use Rattle.bench.specs.Model.{State, Tally}
+use Rattle.bench.specs.Model.{State, Tally, tally_of}
 use Rattle.bench.specs.Calls.{ended, opened, stored, visited}
 use Rattle.laws.specs.Sums.{HeightsAtMost}
 use Rattle.model.specs.Steps.{Bench}
-use Rattle.model.specs.Weights.{tally_of}
 use Rattle.runs.proofs.Parts.{with_sheet, with_tally}
-use Rattle.runs.specs.Theorems.{WithinWeight, sizes_of}
+use Rattle.runs.specs.Theorems.{sizes_of}
 use Rattle.runs.proofs.Stored.{SheetsHeld, opened_held, stored_held}
 
 -- a rack or a slate is as it opened

@@ -9,20 +9,20 @@ use Rattle.limits.specs.Sizes.{lawful_side, lawful_size}
 use Rattle.bench.specs.Model.{sheet_of}
 use Rattle.bench.specs.Calls.{begin_refusal}
 use Rattle.operators.specs.Maps.{times}
-use Rattle.operators.specs.Restoring.{answer_list, written}
-use Rattle.operators.specs.Skeletons.{rebuilt, restored, skeleton}
+use Rattle.operators.specs.Restoring.{answer_list, rebuilt, restored, written}
+use Rattle.operators.specs.Skeletons.{skeleton}
 use Rattle.laws.specs.Skeletons.{SkeletonLaws}
 use Rattle.operators.specs.Spectra.{spectrum}
 use Rattle.laws.specs.Sums.{HeightsAtMost}
-use Rattle.laws.proofs.ElementLaws.{dilation_and_erosion_inside_close, erosion_and_dilation_are_pair}
+use Rattle.laws.proofs.ElementLaws.{erosion_and_dilation_are_pair}
 use Rattle.laws.proofs.Maps.{flat_times, flat_topped}
 use Rattle.laws.proofs.Skeletons.{pairs_restore}
-use Rattle.laws.proofs.Spectra.{pairs_have_spectra}
+use Rattle.runs.proofs.Calls.{spectra_of}
 use Rattle.model.specs.Calls.{Begin, Skeleton, SkeletonTold, SlipTold, Spectrum, SpectrumTold}
-use Rattle.model.specs.ByElement.{shrink, shrink_inside, swell}
+use Rattle.model.specs.ByElement.{shrink, close, swell}
 use Rattle.model.specs.Steps.{Bench, BenchSizes, after, answer, bench_opened}
 use Rattle.runs.proofs.Parts.{answer_parts, refusal, told_by}
-use Rattle.runs.specs.Theorems.{Forgetting, MaskSums, OpenedAlike, Restoring, RunLaws, SkeletonsTellSheets, SpectraTellAreas, in_heights, reached}
+use Rattle.runs.specs.Theorems.{Forgetting, MaskSums, OpenedAlike, Restoring, RunLaws, SkeletonsTellSheets, SpectraTellAreas, in_heights, bench_after, TalliesWithinWeights, FilledPlaces}
 use Rattle.runs.proofs.Accepted.{begin_closed, depth_listed, none_refused, tells_ok}
 use Rattle.runs.proofs.Reached.{Reached}
 use Rattle.runs.proofs.Runs.{answers_go, as_opened_same, run_goes, run_reached, sides_lawful, start_goes}
@@ -45,15 +45,15 @@ blank_long : (b : Bench) → length (blank b) ≡ b.rack.outline.w * b.rack.outl
 blank_long b = length-replicate (b.rack.outline.w * b.rack.outline.h) 0
 
 module _ {X : Type 0} (height : X → ℕ) (top : ℕ) (bounded : (x : X) → height x ≤ top) where
-  mask_sums : MaskSums height top
+  pub mask_sums : MaskSums height top
   mask_sums o masks alike calls next =
-      let b = reached height o calls in
+      let b = bench_after height o calls in
       let g = run_goes height top bounded (bench_opened o) calls (bench_opened o) (λ a. bench_opened (masks a)) (start_goes top o masks alike) in
       (g.sum, answers_go height top bounded (bench_opened o) next b _ g)
 
-  restoring : top ≤ 65536 → Restoring height
+  pub restoring : top ≤ 65536 → Restoring height
   restoring low o calls e depth place len pieces told size answer_was work_was within answer_long work_long =
-      let b = reached height o calls in
+      let b = bench_after height o calls in
       let r = run_reached height top bounded o calls in
       let w = b.rack.outline.w in
       let h = b.rack.outline.h in
@@ -76,28 +76,27 @@ module _ {X : Type 0} (height : X → ℕ) (top : ℕ) (bounded : (x : X) → he
       (rw (built, none_above top (times size (shrink e w h) f) topped low) refl)))) in
       (none, ap (λ r. written r (restored (swell e w h) (w * h) depth size pieces) answer_was) none ∙ ap (times size (swell e w h)) built)
 
-  skeletons_tell : top ≤ 65536 → SkeletonsTellSheets height
+  pub skeletons_tell : top ≤ 65536 → SkeletonsTellSheets height
   skeletons_tell low o p calls others e depth place other len pieces wide tall one two =
-      let b = reached height o calls in
-      let c = reached height p others in
+      let b = bench_after height o calls in
+      let c = bench_after height p others in
       let first = restoring low o calls e depth place len pieces one 0 (blank b) (blank b) (omega arith) (blank_long b) (blank_long b) in
       let second = restoring low p others e depth other len pieces two 0 (blank c) (blank c) (omega arith) (blank_long c) (blank_long c) in
       sym first.1
       ∙ (λ i. answer_list (swell e (wide i) (tall i)) (wide i) (tall i) depth 0 pieces (replicate (wide i * tall i) 0) (replicate (wide i * tall i) 0))
       ∙ second.1
 
-  spectra_tell : SpectraTellAreas height
+  pub spectra_tell : SpectraTellAreas height
   spectra_tell o calls e depth place len entries told =
-      let b = reached height o calls in
+      let b = bench_after height o calls in
       let r = run_reached height top bounded o calls in
       let w = b.rack.outline.w in
       let h = b.rack.outline.h in
       let f = sheet_of b.rack place in
       let ok = tells_ok (refusal b (Spectrum e depth place len)) (told_by b (Spectrum e depth place len)) (SpectrumTold entries) (sym (answer_parts b (Spectrum e depth place len)) ∙ told) in
       let listed = depth_listed b.rack.outline depth place len _ ok.0 in
-      let laws = pairs_have_spectra (w * h) (shrink e w h) (swell e w h) (shrink_inside e w h) (erosion_and_dilation_are_pair e w h) (dilation_and_erosion_inside_close e w h) in
-      let same : spectrum (shrink e w h) (swell e w h) (shrink_inside e w h) depth f ≡ entries = cc (ok.1) in
-      ap (λ xs. sum (drop depth xs)) (sym same) ∙ laws.total depth f (r.held.sized place listed.filled)
+      let same : spectrum (close e w h) (shrink e w h) (swell e w h) depth f ≡ entries = cc (ok.1) in
+      ap (λ xs. sum (drop depth xs)) (sym same) ∙ (spectra_of e w h).total depth f (r.held.sized place listed.filled)
 
   -- where no visit is open the bench is as it opened
   closed_same : (o p : BenchSizes) → OpenedAlike o p → (b c : Bench) → Reached top (bench_opened o) b → Reached top (bench_opened p) c →
@@ -107,10 +106,10 @@ module _ {X : Type 0} (height : X → ℕ) (top : ℕ) (bounded : (x : X) → he
     slate = as_opened_same b.slate c.slate (r.slate_closed bs) (s.slate_closed cs) (r.slate_sizes ∙ alike.slate ∙ sym s.slate_sizes) i;
   }
 
-  forgetting : Forgetting height
+  pub forgetting : Forgetting height
   forgetting o p alike before others flat one two calls next =
-      let b = reached height o before in
-      let c = reached height p others in
+      let b = bench_after height o before in
+      let c = bench_after height p others in
       let first = tells_ok (begin_refusal b.rack.outline b.slate.outline flat) (SlipTold flat) (SlipTold flat) one in
       let second = tells_ok (begin_refusal c.rack.outline c.slate.outline flat) (SlipTold flat) (SlipTold flat) two in
       let open_none = begin_closed b.rack.outline b.slate.outline flat first.0 in
@@ -118,13 +117,19 @@ module _ {X : Type 0} (height : X → ℕ) (top : ℕ) (bounded : (x : X) → he
       ap (λ x. answer (after x (map (in_heights height) (Begin flat ∷ calls))) (in_heights height next))
       (closed_same o p alike b c (run_reached height top bounded o before) (run_reached height top bounded p others) open_none.0 open_none.1 other_none.0 other_none.1)
 
-  pub run_laws : top ≤ 65536 → RunLaws height top
-  run_laws low = record {
-    sums = mask_sums;
-    restoring = restoring low;
-    skeletons = skeletons_tell low;
-    spectra = spectra_tell;
-    weights = λ o calls place. (run_reached height top bounded o calls).tallies place;
-    places = λ o calls place. let r = run_reached height top bounded o calls in (r.rack_filled place, r.slate_filled place);
-    forgetting = forgetting;
-  }
+  pub tallies_within : TalliesWithinWeights height top
+  tallies_within o calls place = (run_reached height top bounded o calls).tallies place
+
+  pub filled_places : FilledPlaces height
+  filled_places o calls place = let r = run_reached height top bounded o calls in (r.rack_filled place, r.slate_filled place)
+
+pub run_laws : {X : Type 0} (height : X → ℕ) (top : ℕ) → ((x : X) → height x ≤ top) → top ≤ 65536 → RunLaws height top
+run_laws height top bounded low = record {
+  sums = mask_sums height top bounded;
+  restoring = restoring height top bounded low;
+  skeletons = skeletons_tell height top bounded low;
+  spectra = spectra_tell height top bounded;
+  weights = tallies_within height top bounded;
+  places = filled_places height top bounded;
+  forgetting = forgetting height top bounded;
+}

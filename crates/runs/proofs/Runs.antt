@@ -1,17 +1,17 @@
 -- Whole runs on a bench and on those of the masks, from benches opened alike. Assumes nothing.
+use Rattle.model.specs.Weights.{WithinWeight}
 use Rattle.std.proofs.Common.{◌≡◌, ℕ, ◌≤◌, true, ◌&&◌, List, [], ◌∷◌, map, Some, None, Option, sym, refl, ap, ◌∙◌, subst, leb, arith, Result, is_some}
 use Rattle.std.proofs.lemmas.Bool.{and_parts, leb-true}
 use Rattle.limits.specs.declared.fault.Fault.{Fault}
 use Rattle.limits.specs.Faults.{tells, unless}
 use Rattle.limits.specs.Sizes.{lawful_side, sizes_refusal}
-use Rattle.bench.specs.Model.{State, Tally, is_place}
+use Rattle.bench.specs.Model.{State, Tally, is_place, tally_of}
 use Rattle.bench.specs.Calls.{opened}
 use Rattle.model.specs.Calls.{Call, Told}
 use Rattle.model.specs.Steps.{Bench, BenchSizes, after, answer, bench_opened, step}
-use Rattle.model.specs.Weights.{tally_of}
 use Rattle.runs.proofs.Parts.{answer_parts, step_parts, leaves, refusal, told_by}
 use Rattle.runs.specs.Sums.{AnswerSum, BenchSum, ToldSum}
-use Rattle.runs.specs.Theorems.{OpenedAlike, WithinWeight, cut_at, in_heights, reached, sizes_of}
+use Rattle.runs.specs.Theorems.{OpenedAlike, cut_at, in_heights, bench_after, sizes_of}
 use Rattle.runs.proofs.Accepted.{passed}
 use Rattle.runs.proofs.Calls.{Goes, leaves_goes, refused_alike, told_sum}
 use Rattle.runs.proofs.Reached.{AsOpened, Reached, none_within}
@@ -91,7 +91,7 @@ start_goes top o masks alike = record {
 }
 
 -- a bench that a run reaches
-pub run_reached : {X : Type 0} (height : X → ℕ) (top : ℕ) → ((x : X) → height x ≤ top) → (o : BenchSizes) (calls : List (Call X)) → Reached top (bench_opened o) (reached height o calls)
+pub run_reached : {X : Type 0} (height : X → ℕ) (top : ℕ) → ((x : X) → height x ≤ top) → (o : BenchSizes) (calls : List (Call X)) → Reached top (bench_opened o) (bench_after height o calls)
 run_reached height top bounded o calls =
     (run_goes height top bounded (bench_opened o) calls (bench_opened o) (λ a. bench_opened o) (start_goes top o (λ a. o) (λ a low. record { rack = refl; slate = refl }))).reached
 

@@ -2,14 +2,13 @@
 use Rattle.std.proofs.Common.{◌≡◌, ℕ, ◌*◌, ◌≤◌, Bool, true, false, cond, eqb, List, [], length, Some, None, pos, ◌+ℤ◌, unwrap_or, sym, refl, ap, ◌∙◌, arith}
 use Rattle.std.proofs.lemmas.Bool.{false≢true}
 use Rattle.morphology.specs.Cells.{cut}
-use Rattle.bench.specs.Model.{State, Tally, sheet_of}
+use Rattle.bench.specs.Model.{State, Tally, sheet_of, tally_of}
 use Rattle.bench.specs.Calls.{Making, ended, opened, stored, visited}
 use Rattle.laws.specs.Sums.{HeightsAtMost}
 use Rattle.operators.specs.Tallies.{differed}
 use Rattle.laws.proofs.Sums.{list_fold_none, list_fold_same}
 use Rattle.laws.proofs.SumsOfCuts.{differed_over_cuts}
 use Rattle.model.specs.Steps.{Bench}
-use Rattle.model.specs.Weights.{tally_of}
 use Rattle.runs.proofs.Parts.{difference_of, made_of, with_sheet, with_tally}
 use Rattle.runs.specs.Sums.{BenchSum, TallySum}
 use Rattle.runs.proofs.Makings.{CutMaking, made_topped}

@@ -12,8 +12,7 @@ use Rattle.laws.proofs.Cells.{get_or-shorter, length-shorter}
 use Rattle.laws.proofs.Cuts.{topped_rest}
 use Rattle.laws.proofs.Sums.{get_or-kept}
 use Rattle.operators.specs.Tallies.{added, differed}
-use Rattle.model.specs.Weights.{difference, multiple, sum_of_tallies}
-use Rattle.runs.specs.Theorems.{WithinWeight}
+use Rattle.model.specs.Weights.{difference, multiple, sum_of_tallies, WithinWeight}
 
 size_of_difference : (top x y : ℕ) → x ≤ top → y ≤ top → unsigned_abs (pos x -ℤ pos y) ≤ top
 size_of_difference top x y one other = omega (arith, ints)

@@ -1,16 +1,14 @@
--- The conditions of the refusals, each told of all calls alike, and that a call tells the one with the smallest number of those whose
--- conditions hold. Assumes nothing.
-use Rattle.std.specs.Prelude.{◌≡◌, ℕ, ◌+◌, ◌*◌, Bool, true, false, not, ◌&&◌, ◌||◌, List, [], ◌∷◌, ◌++◌, map, length, find, ℤ, is_some, Some, None, Ok, Err, Option, Result, ◌==◌, nat_le, nat_lt}
+-- The conditions of the refusals, each told of all calls alike, and that a call tells the first whose condition holds. Assumes nothing.
+use Rattle.std.specs.Prelude.{◌≡◌, ℕ, ◌+◌, ◌*◌, Bool, true, false, not, ◌&&◌, ◌||◌, List, [], ◌∷◌, ◌++◌, map, length, find, ℤ, is_some, Some, None, Ok, Err, Option, Result, ◌==◌, nat_lt}
 use Rattle.std.specs.List.{list_all, list_any}
 use Rattle.limits.specs.declared.fault.Fault.{Fault}
 use Rattle.limits.specs.declared.fault.Fault.TheVariants.{Side, Places, Memory, Length, SheetPlace, TallyPlace, SizeOrDepth, ListLength, FactorOrHeight, BuiltIn, Flat, RestoreCell, NoVisit, VisitOpen, OtherFlat, EmptySheet, EmptyTally, Weight, Unequal}
 use Rattle.limits.specs.Faults.{fault_number}
-use Rattle.limits.specs.Sizes.{lawful_size}
-use Rattle.bench.specs.Model.{Outline, State, Tally, is_place}
+use Rattle.limits.specs.Sizes.{lawful_flat, lawful_size, lawful_factor}
+use Rattle.bench.specs.Model.{Outline, State, Tally, is_place, tally_of}
 use Rattle.bench.specs.Calls.{equal_benches, same_visit}
 use Rattle.model.specs.Calls.{Call, Told, Begin, End, Load, Erode, Dilate, Open, Close, Meet, Join, Regrow, Edge, Peak, Valley, Differ, Add, Scale, Area, Span, Spectrum, Skeleton, ShowSheet, ShowTally}
-use Rattle.model.specs.TallyCalls.{lawful_factor}
-use Rattle.model.specs.Weights.{lawful_weight, multiple, sum_of_tallies, tally_of}
+use Rattle.model.specs.Weights.{lawful_weight, multiple, sum_of_tallies}
 use Rattle.model.specs.Steps.{Bench, answer, step}
 
 -- the sheet places that a call reads, and those that it fills
@@ -72,11 +70,11 @@ abbrev pub factors : Call ℕ → List ℤ
 factors (Scale factor from to) = factor ∷ []
 factors call = []
 
--- the weight of the tally that a call would make of tallies
-abbrev pub weights_made : State Tally → Call ℕ → List ℕ
-weights_made slate (Add one other to) = (sum_of_tallies (tally_of slate one) (tally_of slate other)).weight ∷ []
-weights_made slate (Scale factor from to) = (multiple factor (tally_of slate from)).weight ∷ []
-weights_made slate call = []
+-- the tally that a call would make of tallies
+abbrev pub tallies_made : State Tally → Call ℕ → List Tally
+tallies_made slate (Add one other to) = sum_of_tallies (tally_of slate one) (tally_of slate other) ∷ []
+tallies_made slate (Scale factor from to) = multiple factor (tally_of slate from) ∷ []
+tallies_made slate call = []
 
 -- the flat to which a call begins a visit, and the flat on the slip by which it ends one
 abbrev pub flats_begun : Call ℕ → List ℕ
@@ -137,7 +135,7 @@ applies rack slate call ListLength = fails (λ len. len.0 == len.1) (entry_lengt
 -- the factor is not −100 to 100
 applies rack slate call FactorOrHeight = fails lawful_factor (factors call)
 -- the flat to begin with is not 1 to 9,999
-applies rack slate call Flat = fails (λ flat. nat_le 1 flat && nat_le flat 9999) (flats_begun call)
+applies rack slate call Flat = fails lawful_flat (flats_begun call)
 -- the visit that has to be open is not
 applies rack slate call NoVisit = fails is_some (visits_needed rack.outline slate.outline call)
 -- a visit would begin while one is open on the rack or on the slate
@@ -149,15 +147,15 @@ applies rack slate call EmptySheet = fails rack.outline.filled (sheets_read call
 -- a tally place that is read is empty
 applies rack slate call EmptyTally = fails slate.outline.filled (tallies_read call)
 -- the tally to be made would weigh more than 1,000
-applies rack slate call Weight = fails lawful_weight (weights_made slate call)
+applies rack slate call Weight = fails lawful_weight (tallies_made slate call)
 -- rack and slate are taken together and differ in their sides or their visits
 applies rack slate call Unequal = takes_both call && not (equal_benches rack.outline slate.outline)
 -- the others are refusals of openings, and of calls without a bench
 applies rack slate call fault = false
 
--- the refusals in the order of their numbers
-abbrev pub by_number : List Fault
-by_number =
+-- the refusals in the order in which they are tried
+abbrev pub in_order : List Fault
+in_order =
     Side ∷ Places ∷ Memory ∷ Length ∷ SheetPlace ∷ TallyPlace ∷ SizeOrDepth ∷ ListLength ∷ FactorOrHeight ∷ BuiltIn ∷ Flat
     ∷ RestoreCell ∷ NoVisit ∷ VisitOpen ∷ OtherFlat ∷ EmptySheet ∷ EmptyTally ∷ Weight ∷ Unequal ∷ []
 
@@ -166,19 +164,19 @@ abbrev pub ascends : ℕ → List ℕ → Bool
 ascends bound [] = true
 ascends bound (n ∷ ns) = nat_lt bound n && ascends n ns
 
--- the numbers of the refusals in that list ascend, and each refusal is in it, found by its number
+-- the numbers of the refusals ascend in that order, and each refusal is in it, found by its number
 pub record NumbersAscend : Type 0 where
-  pub ascend : ascends 0 (map fault_number by_number) ≡ true
-  pub complete : (fault : Fault) → find (λ other. fault_number other == fault_number fault) by_number ≡ Some fault
+  pub ascend : ascends 0 (map fault_number in_order) ≡ true
+  pub complete : (fault : Fault) → find (λ other. fault_number other == fault_number fault) in_order ≡ Some fault
 
 -- the refusal that an answer tells, if it is one
-abbrev pub refused : Result Told Fault → Option Fault
-refused (Ok told) = None
-refused (Err fault) = Some fault
+abbrev pub fault_told : Result Told Fault → Option Fault
+fault_told (Ok told) = None
+fault_told (Err fault) = Some fault
 
--- A call tells the refusal with the smallest number of those whose conditions hold, and is accepted where none holds.
-abbrev pub FirstByNumber : Type 0
-FirstByNumber = (b : Bench) (call : Call ℕ) → refused (answer b call) ≡ find (applies b.rack b.slate call) by_number
+-- A call tells the first refusal in that order whose condition holds, and is accepted where none holds.
+abbrev pub FirstInOrder : Type 0
+FirstInOrder = (b : Bench) (call : Call ℕ) → fault_told (answer b call) ≡ find (applies b.rack b.slate call) in_order
 
 -- A refused call leaves the bench as it was.
 abbrev pub RefusalsLeaveTheBench : Type 0

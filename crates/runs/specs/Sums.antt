@@ -2,11 +2,10 @@
 use Rattle.std.specs.Prelude.{◌≡◌, ℕ, ◌≤◌, List, Ok, Err, Result}
 use Rattle.limits.specs.declared.fault.Fault.{Fault}
 use Rattle.morphology.specs.Cells.{cut}
-use Rattle.bench.specs.Model.{Tally, sheet_of}
+use Rattle.bench.specs.Model.{Tally, sheet_of, tally_of}
 use Rattle.laws.specs.Sums.{IntListSum, ListSum, greatest_to, sum_to}
 use Rattle.model.specs.Calls.{Told, NothingTold, SlipTold, RoundsTold, AreaTold, SpanTold, SpectrumTold, SkeletonTold, SheetTold, TallyTold}
 use Rattle.model.specs.Steps.{Bench}
-use Rattle.model.specs.Weights.{tally_of}
 
 -- A tally is the sum of others, cell by cell, and weighs as much as each.
 pub record TallySum (top : ℕ) (t : Tally) (masks : ℕ → Tally) : Type 0 where

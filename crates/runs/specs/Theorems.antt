@@ -1,16 +1,16 @@
 -- What holds of every run of calls on a bench of any level kind. Of a kind only the height of each level and its top are used.
 -- Assumes nothing.
-use Rattle.std.specs.Prelude.{◌≡◌, ℕ, ◌*◌, ◌≤◌, List, ◌∷◌, map, length, is_some, drop, sum, None, Ok, pos, slice_index_or, unsigned_abs}
+use Rattle.std.specs.Prelude.{◌≡◌, ℕ, ◌*◌, ◌≤◌, List, ◌∷◌, map, length, is_some, drop, sum, None, Ok}
 use Rattle.elements.specs.declared.element.Element.{Element}
 use Rattle.morphology.specs.Cells.{cut}
 use Rattle.morphology.specs.Sheets.{area}
-use Rattle.bench.specs.Model.{Outline, Tally, sheet_of}
+use Rattle.bench.specs.Model.{Outline, sheet_of, tally_of}
 use Rattle.operators.specs.Openings.{opening}
 use Rattle.operators.specs.Restoring.{answer_list, restore_refusal}
 use Rattle.model.specs.Calls.{Call, Begin, Skeleton, Spectrum, SkeletonTold, SlipTold, SpectrumTold, with_picture}
 use Rattle.model.specs.ByElement.{shrink, swell}
 use Rattle.model.specs.Steps.{Bench, BenchSizes, after, answer, bench_opened}
-use Rattle.model.specs.Weights.{tally_of}
+use Rattle.model.specs.Weights.{WithinWeight}
 use Rattle.runs.specs.Sums.{AnswerSum, BenchSum}
 
 -- the sides and the number of places of a rack or a slate
@@ -34,26 +34,26 @@ abbrev pub cut_at : {X : Type 0} → (X → ℕ) → ℕ → Call X → Call ℕ
 cut_at height a = with_picture (λ picture. cut a (map height picture))
 
 -- the bench that calls reach from its opening, and the mask bench of a height that the same calls reach
-abbrev pub reached : {X : Type 0} → (X → ℕ) → BenchSizes → List (Call X) → Bench
-reached height o calls = after (bench_opened o) (map (in_heights height) calls)
+abbrev pub bench_after : {X : Type 0} → (X → ℕ) → BenchSizes → List (Call X) → Bench
+bench_after height o calls = after (bench_opened o) (map (in_heights height) calls)
 
-abbrev pub mask_reached : {X : Type 0} → (X → ℕ) → ℕ → BenchSizes → List (Call X) → Bench
-mask_reached height a o calls = after (bench_opened o) (map (cut_at height a) calls)
+abbrev pub mask_bench_after : {X : Type 0} → (X → ℕ) → ℕ → BenchSizes → List (Call X) → Bench
+mask_bench_after height a o calls = after (bench_opened o) (map (cut_at height a) calls)
 
 -- Mask sums. The same calls run with every picture cut at a height, for each height from 1 on and each on a bench of its own that
 -- was opened alike: whatever was called before, the benches and the answers to the next call are made up of those of the masks.
 abbrev pub MaskSums : {X : Type 0} → (X → ℕ) → ℕ → Type 0
 MaskSums {X} height top = (o : BenchSizes) (masks : ℕ → BenchSizes) → ((a : ℕ) → 1 ≤ a → OpenedAlike (masks a) o) →
     (calls : List (Call X)) (next : Call X) →
-    BenchSum top (reached height o calls) (λ a. mask_reached height a (masks a) calls)
-    × AnswerSum top (answer (reached height o calls) (in_heights height next))
-    (λ a. answer (mask_reached height a (masks a) calls) (cut_at height a next))
+    BenchSum top (bench_after height o calls) (λ a. mask_bench_after height a (masks a) calls)
+    × AnswerSum top (answer (bench_after height o calls) (in_heights height next))
+    (λ a. answer (mask_bench_after height a (masks a) calls) (cut_at height a next))
 
 -- Restoring. From the skeleton that a call told of a sheet, restore with the same sides, depth and element, and with lists of the
 -- right length, is not refused at any size up to the depth, and writes the opening of that size.
 abbrev pub Restoring : {X : Type 0} → (X → ℕ) → Type 0
 Restoring {X} height = (o : BenchSizes) (calls : List (Call X)) (e : Element) (depth place len : ℕ) (pieces : List ℕ) →
-    let b = reached height o calls in
+    let b = bench_after height o calls in
     let w = b.rack.outline.w in
     let h = b.rack.outline.h in
     answer b (Skeleton e depth place len) ≡ Ok (SkeletonTold pieces) →
@@ -65,8 +65,8 @@ Restoring {X} height = (o : BenchSizes) (calls : List (Call X)) (e : Element) (d
 -- So two sheets of the same sides with one skeleton, under one element and to one depth, are the same sheet.
 abbrev pub SkeletonsTellSheets : {X : Type 0} → (X → ℕ) → Type 0
 SkeletonsTellSheets {X} height = (o p : BenchSizes) (calls others : List (Call X)) (e : Element) (depth place other len : ℕ) (pieces : List ℕ) →
-    let b = reached height o calls in
-    let c = reached height p others in
+    let b = bench_after height o calls in
+    let c = bench_after height p others in
     b.rack.outline.w ≡ c.rack.outline.w → b.rack.outline.h ≡ c.rack.outline.h →
     answer b (Skeleton e depth place len) ≡ Ok (SkeletonTold pieces) → answer c (Skeleton e depth other len) ≡ Ok (SkeletonTold pieces) →
     sheet_of b.rack place ≡ sheet_of c.rack other
@@ -74,30 +74,26 @@ SkeletonsTellSheets {X} height = (o p : BenchSizes) (calls others : List (Call X
 -- The entries of a spectrum from size 0 on, with the rest, sum to the area of the sheet.
 abbrev pub SpectraTellAreas : {X : Type 0} → (X → ℕ) → Type 0
 SpectraTellAreas {X} height = (o : BenchSizes) (calls : List (Call X)) (e : Element) (depth place len : ℕ) (entries : List ℕ) →
-    let b = reached height o calls in
+    let b = bench_after height o calls in
     answer b (Spectrum e depth place len) ≡ Ok (SpectrumTold entries) → sum (drop depth entries) ≡ area (sheet_of b.rack place)
 
 -- A tally weighs at most 1,000, and none of its cells exceeds weight × top in size.
-pub record WithinWeight (top : ℕ) (t : Tally) : Type 0 where
-  pub weight : t.weight ≤ 1000
-  pub cells : (k : ℕ) → unsigned_abs (slice_index_or t.cells k (pos 0)) ≤ t.weight * top
-
 abbrev pub TalliesWithinWeights : {X : Type 0} → (X → ℕ) → ℕ → Type 0
 TalliesWithinWeights {X} height top = (o : BenchSizes) (calls : List (Call X)) (place : ℕ) →
-    WithinWeight top (tally_of (reached height o calls).slate place)
+    WithinWeight top (tally_of (bench_after height o calls).slate place)
 
 -- A place counts as filled exactly where something stands in it.
 abbrev pub FilledPlaces : {X : Type 0} → (X → ℕ) → Type 0
 FilledPlaces {X} height = (o : BenchSizes) (calls : List (Call X)) (place : ℕ) →
-    let b = reached height o calls in
+    let b = bench_after height o calls in
     (b.rack.outline.filled place ≡ is_some (b.rack.content place)) × (b.slate.outline.filled place ≡ is_some (b.slate.content place))
 
 -- Forgetting. On two benches opened alike, whatever was called before on each, a begin that both accept makes all later calls
 -- get the same answers.
 abbrev pub Forgetting : {X : Type 0} → (X → ℕ) → Type 0
 Forgetting {X} height = (o p : BenchSizes) → OpenedAlike o p → (before others : List (Call X)) (flat : ℕ) →
-    let b = reached height o before in
-    let c = reached height p others in
+    let b = bench_after height o before in
+    let c = bench_after height p others in
     answer b (Begin flat) ≡ Ok (SlipTold flat) → answer c (Begin flat) ≡ Ok (SlipTold flat) → (calls : List (Call X)) (next : Call X) →
     answer (after b (map (in_heights height) (Begin flat ∷ calls))) (in_heights height next)
     ≡ answer (after c (map (in_heights height) (Begin flat ∷ calls))) (in_heights height next)

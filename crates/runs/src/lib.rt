@@ -3,4 +3,4 @@
 
 mod theorems;
 
-pub use theorems::{refusals_by_number, runs_of_a_kind, runs_of_every_top};
+pub use theorems::{refusals_in_order, runs_of_a_kind, runs_of_every_top};

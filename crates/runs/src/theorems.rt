@@ -1,25 +1,31 @@
 // The theorems about the calls on a bench, and about every run of them.
 ghost use Rattle.std.specs.Prelude.{ℕ, ◌≤◌};
-ghost use Rattle.runs.specs.Conditions.{FirstByNumber, NumbersAscend, RefusalsLeaveTheBench};
-ghost use Rattle.runs.specs.Theorems.{HeightsTo, RunLaws};
+ghost use Rattle.runs.specs.Conditions.{FirstInOrder, NumbersAscend, RefusalsLeaveTheBench};
+ghost use Rattle.runs.specs.Theorems.{FilledPlaces, Forgetting, HeightsTo, MaskSums, Restoring, RunLaws, SkeletonsTellSheets, SpectraTellAreas, TalliesWithinWeights};
 
 use levels::level::Level;
 
-/// Each refusal has its condition. Of the refusals whose conditions hold a call tells the one with the smallest number, and it is
-/// accepted where none holds; a refused call leaves the bench as it was.
-#[tactic(auto, using(crate::proofs::FirstByNumber::numbers_ascend, crate::proofs::FirstByNumber::first_by_number))]
-pub fn refusals_by_number()
-    ensures order { NumbersAscend }
-    ensures refusals { FirstByNumber }
+/// Each refusal that a call of the model can tell has its condition. A call tells the first whose condition holds, in the order of their
+/// numbers, and it is accepted where none holds; a refused call leaves the bench as it was.
+#[tactic(auto, using(crate::proofs::FirstInOrder::numbers_ascend, crate::proofs::FirstInOrder::first_in_order))]
+pub fn refusals_in_order()
+    ensures numbers { NumbersAscend }
+    ensures refusals { FirstInOrder }
     ensures bench { RefusalsLeaveTheBench }
 {}
 
-/// What holds of every run of calls on a bench of a level kind: mask sums, restoring, forgetting and what goes with them.
+/// What holds of every run of calls on a bench of a level kind.
 pub fn runs_of_a_kind<L: Level>()
-    ensures { RunLaws L.height L.top }
+    ensures sums { MaskSums L.height L.top }
+    ensures restoring { Restoring L.height }
+    ensures skeletons { SkeletonsTellSheets L.height }
+    ensures spectra { SpectraTellAreas L.height }
+    ensures weights { TalliesWithinWeights L.height L.top }
+    ensures places { FilledPlaces L.height }
+    ensures forgetting { Forgetting L.height }
 {}
 
-/// What holds of every run of calls, for every top from 1 to 65,536.
+/// All of this for every top from 1 to 65,536.
 pub fn runs_of_every_top()
     ensures { (top : ℕ) → 1 ≤ top → top ≤ 65536 → RunLaws (λ (x : HeightsTo top). x.0) top }
 {}

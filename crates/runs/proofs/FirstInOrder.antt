@@ -1,4 +1,4 @@
--- That a call tells the refusal with the smallest number of those whose conditions hold. Assumes nothing.
+-- That a call tells the first refusal whose condition holds, and leaves the bench by it. Assumes nothing.
 use Rattle.std.proofs.Common.{◌≡◌, Bool, true, false, not, Some, None, Err, Option, ℕ, refl, ap, sym, ◌∙◌, arith}
 use Rattle.std.proofs.Math.Bool.{and_assoc, and_self, and-true, or-false}
 use Rattle.std.specs.Prelude.{find, ◌==◌}
@@ -7,14 +7,14 @@ use Rattle.limits.specs.declared.fault.Fault.TheVariants.{Side}
 use Rattle.limits.specs.Faults.{fault_number, first, tells, unless}
 use Rattle.model.specs.Calls.{Begin, Call, Told}
 use Rattle.model.specs.Steps.{Bench}
-use Rattle.runs.specs.Conditions.{FirstByNumber, NumbersAscend, RefusalsLeaveTheBench, applies, by_number, refused}
+use Rattle.runs.specs.Conditions.{FirstInOrder, NumbersAscend, RefusalsLeaveTheBench, applies, in_order, fault_told}
 use Rattle.runs.proofs.Parts.{answer_parts, leaves, refusal, step_parts, told_by}
 
 -- the list of refusals is in order and complete
 pub numbers_ascend : NumbersAscend
 numbers_ascend = record { ascend = refl; complete = found }
   where
-    found : (fault : Fault) → find (λ other. fault_number other == fault_number fault) by_number ≡ Some fault
+    found : (fault : Fault) → find (λ other. fault_number other == fault_number fault) in_order ≡ Some fault
     found Side = refl
     found fault = refl
 
@@ -28,16 +28,16 @@ tried_once false second third fault f g rest = refl
 ruleset tests = (and_self, and-true, or-false, ← and_assoc, tried_once)
 
 -- each call by itself: both sides compute to the same tests
-conditions_tried : (b : Bench) (call : Call ℕ) → refusal b call ≡ find (applies b.rack b.slate call) by_number
+conditions_tried : (b : Bench) (call : Call ℕ) → refusal b call ≡ find (applies b.rack b.slate call) in_order
 conditions_tried b (Begin flat) = simp tests
 conditions_tried b call = simp tests
 
-refused_is : (o : Option Fault) (t : Told) → refused (tells o t) ≡ o
-refused_is None t = refl
-refused_is (Some fault) t = refl
+told_is : (o : Option Fault) (t : Told) → fault_told (tells o t) ≡ o
+told_is None t = refl
+told_is (Some fault) t = refl
 
-pub first_by_number : FirstByNumber
-first_by_number b call = ap refused (answer_parts b call) ∙ refused_is (refusal b call) (told_by b call) ∙ conditions_tried b call
+pub first_in_order : FirstInOrder
+first_in_order b call = ap fault_told (answer_parts b call) ∙ told_is (refusal b call) (told_by b call) ∙ conditions_tried b call
 
 -- what an answer refuses, the bench does not do
 left_alone : (o : Option Fault) (t : Told) (new old : Bench) (fault : Fault) → tells o t ≡ Err fault → unless o new old ≡ old

@@ -1,4 +1,4 @@
-// Every call on a bench as a model, in heights: what it refuses, leaves and tells, and a run of calls.
+// Every call on a bench but cut as a model, in heights: what it refuses, leaves and tells, and a run of calls.
 #![tactic(auto)]
 
 mod worked;

@@ -6,7 +6,9 @@ use Rattle.morphology.specs.Erosion.{dilated, eroded}
 use Rattle.bench.specs.Calls.{Making}
 use Rattle.operators.specs.Closings.{closing, eroded_inside}
 use Rattle.operators.specs.Openings.{opening}
-use Rattle.operators.specs.Reconstruction.{reconstructed}
+use Rattle.operators.specs.Reconstruction.{reconstructed, rounds}
+use Rattle.operators.specs.Skeletons.{skeleton}
+use Rattle.operators.specs.Spectra.{spectrum}
 
 -- Its erosion and dilation, and its closing of a size.
 abbrev pub shrink : Element → ℕ → ℕ → List ℕ → List ℕ
@@ -28,3 +30,13 @@ closing_by e size w h f g = close e w h size f
 
 abbrev pub reconstruction_by : Element → Making
 reconstruction_by e w h marker upper = reconstructed (swell e w h) marker upper
+
+-- The changing rounds of its reconstruction; its spectrum and its skeleton to a depth.
+abbrev pub rounds_by : Element → ℕ → ℕ → List ℕ → List ℕ → ℕ
+rounds_by e w h = rounds (swell e w h)
+
+abbrev pub spectrum_by : Element → ℕ → ℕ → ℕ → List ℕ → List ℕ
+spectrum_by e depth w h = spectrum (close e w h) (shrink e w h) (swell e w h) depth
+
+abbrev pub skeleton_by : Element → ℕ → ℕ → ℕ → List ℕ → List ℕ
+skeleton_by e depth w h = skeleton (shrink e w h) (swell e w h) depth

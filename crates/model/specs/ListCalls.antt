@@ -7,9 +7,7 @@ use Rattle.limits.specs.Faults.{first, tells}
 use Rattle.limits.specs.Sizes.{lawful_size}
 use Rattle.bench.specs.Model.{Outline, State, is_place, sheet_of}
 use Rattle.bench.specs.Calls.{sheet_refusal}
-use Rattle.operators.specs.Skeletons.{skeleton}
-use Rattle.operators.specs.Spectra.{spectrum}
-use Rattle.model.specs.ByElement.{close, shrink, swell}
+use Rattle.model.specs.ByElement.{skeleton_by, spectrum_by}
 
 -- to a depth, of the sheet in a place, to a list that is to have so many numbers: the place, then the depth, then the length of the
 -- list, then the visit and the sheet
@@ -26,10 +24,7 @@ spectrum_refusal o depth place len = depth_refusal o depth place len (2 * depth 
 
 abbrev pub spectrum_answer : Element → State (List ℕ) → ℕ → ℕ → ℕ → Result (List ℕ) Fault
 spectrum_answer e s depth place len =
-    let w = s.outline.w in
-    let h = s.outline.h in
-    tells (spectrum_refusal s.outline depth place len)
-    (spectrum (close e w h) (shrink e w h) (swell e w h) depth (sheet_of s place))
+    tells (spectrum_refusal s.outline depth place len) (spectrum_by e depth s.outline.w s.outline.h (sheet_of s place))
 
 -- skeleton: a piece for each size from 0 to the depth
 abbrev pub skeleton_refusal : Outline → ℕ → ℕ → ℕ → Option Fault
@@ -37,6 +32,4 @@ skeleton_refusal o depth place len = depth_refusal o depth place len ((depth + 1
 
 abbrev pub skeleton_answer : Element → State (List ℕ) → ℕ → ℕ → ℕ → Result (List ℕ) Fault
 skeleton_answer e s depth place len =
-    let w = s.outline.w in
-    let h = s.outline.h in
-    tells (skeleton_refusal s.outline depth place len) (skeleton (shrink e w h) (swell e w h) depth (sheet_of s place))
+    tells (skeleton_refusal s.outline depth place len) (skeleton_by e depth s.outline.w s.outline.h (sheet_of s place))

@@ -7,8 +7,7 @@ use Rattle.limits.specs.Faults.{first, tells, unless}
 use Rattle.limits.specs.Sizes.{lawful_size}
 use Rattle.bench.specs.Model.{Outline, State, is_place, sheet_of}
 use Rattle.bench.specs.Calls.{make_leaves, make_refusal, stored}
-use Rattle.operators.specs.Reconstruction.{rounds}
-use Rattle.model.specs.ByElement.{closing_by, opening_by, reconstruction_by, swell}
+use Rattle.model.specs.ByElement.{closing_by, opening_by, reconstruction_by, rounds_by}
 
 -- opening and closing: the places, then the size, then the visit, then the source
 abbrev pub sized_refusal : Outline → ℕ → ℕ → ℕ → Option Fault
@@ -41,4 +40,4 @@ regrow_leaves e = make_leaves (reconstruction_by e)
 
 abbrev pub regrow_answer : Element → State (List ℕ) → ℕ → ℕ → ℕ → Result ℕ Fault
 regrow_answer e s marker upper to =
-    tells (make_refusal s.outline marker upper to) (rounds (swell e s.outline.w s.outline.h) (sheet_of s marker) (sheet_of s upper))
+    tells (make_refusal s.outline marker upper to) (rounds_by e s.outline.w s.outline.h (sheet_of s marker) (sheet_of s upper))

@@ -1,6 +1,6 @@
 -- Each call on a bench and on those of the masks: it is refused alike, and leaves and tells what is made up of what they leave and tell.
 -- Assumes nothing.
-use Rattle.std.proofs.Common.{[], ◌≡◌, ℕ, ◌+◌, ◌*◌, ◌≤◌, max, cond, leb, true, map, length, is_some, None, ℤ, pos, ◌+ℤ◌, ◌*ℤ◌, sym, refl, ap, ◌∙◌}
+use Rattle.std.proofs.Common.{List, length, [], ◌≡◌, ℕ, ◌+◌, ◌*◌, ◌≤◌, max, cond, leb, true, map, length, is_some, None, ℤ, pos, ◌+ℤ◌, ◌*ℤ◌, sym, refl, ap, ◌∙◌}
 use Rattle.std.proofs.Math.IntN.{*ℤ-zero}
 use Rattle.std.specs.Prelude.{unsigned_abs}
 use Rattle.std.proofs.lemmas.List.{length-map}
@@ -13,26 +13,25 @@ use Rattle.morphology.specs.Sheets.{area}
 use Rattle.bench.specs.Model.{Tally, sheet_of, tally_of}
 use Rattle.bench.specs.Calls.{Making, begin_refusal, by_element, end_refusal, load_refusal, make_refusal, sheet_refusal}
 use Rattle.bench.proofs.Refusals.{load_accepted}
-use Rattle.calls.specs.Told.{show_sheet_refusal, show_tally_refusal, extreme_spot}
+use Rattle.calls.specs.Told.{show_sheet_refusal, show_tally_refusal}
 use Rattle.elements.specs.Elements.{offsets}
-use Rattle.operators.specs.Reconstruction.{rounds}
-use Rattle.operators.specs.Skeletons.{skeleton}
-use Rattle.operators.specs.Spectra.{spectrum}
 use Rattle.laws.specs.Sums.{ListSum, greatest_to, sum_to}
 use Rattle.laws.proofs.ElementLaws.{erosion_and_dilation_are_pair}
 use Rattle.laws.proofs.Skeletons.{pairs_restore}
 use Rattle.laws.proofs.Spectra.{spectra_of_both}
+use Rattle.laws.specs.Skeletons.{SkeletonLaws}
 use Rattle.laws.specs.Spectra.{SpectrumLaws}
+use Rattle.laws.specs.Sums.{HeightsAtMost}
 use Rattle.laws.proofs.Sums.{list_fold_added, list_fold_kept, list_fold_same, over_same}
 use Rattle.laws.proofs.SumsOfCuts.{area_over_cuts, extreme_over_cuts, swap_int_sums}
 use Rattle.model.specs.Calls.{Call, Begin, End, Load, Erode, Dilate, Open, Close, Meet, Join, Regrow, Edge, Peak, Valley, Differ, Add, Scale, Area, Span, Spectrum, Skeleton, ShowSheet, ShowTally, SheetTold}
-use Rattle.model.specs.ByElement.{closing_by, opening_by, reconstruction_by, shrink, close, swell}
+use Rattle.model.specs.ByElement.{close, closing_by, opening_by, reconstruction_by, rounds_by, shrink, skeleton_by, spectrum_by, swell}
 use Rattle.model.specs.ListCalls.{skeleton_refusal, spectrum_refusal}
 use Rattle.model.specs.SheetCalls.{sized_refusal}
 use Rattle.model.specs.Steps.{Bench}
 use Rattle.model.specs.TallyCalls.{add_refusal, difference_refusal, scale_refusal}
 use Rattle.model.specs.Weights.{multiple, sum_of_tallies, WithinWeight}
-use Rattle.runs.proofs.Parts.{difference_of, leaves, made_of, refusal, the_first, the_second, told_by, with_sheet, with_tally}
+use Rattle.runs.proofs.Parts.{extreme_of_sheet, list_of, rounds_of, difference_of, leaves, made_of, refusal, the_first, the_second, told_by, with_sheet, with_tally}
 use Rattle.runs.specs.Sums.{BenchSum, TallySum, ToldSum}
 use Rattle.runs.specs.Theorems.{cut_at, in_heights}
 use Rattle.runs.proofs.Accepted.{Sources, add_light, difference_sources, depth_listed, make_sources, scale_light, sized_sources}
@@ -60,7 +59,10 @@ multiple_sum top factor t ts one = record {
   cells = list_fold_kept ◌+ℤ◌ (pos 0) (λ x. factor *ℤ x) (*ℤ-zero factor) (multiple_of_sum factor) top t.cells (λ a. (ts a).cells) one.cells;
 }
 
--- the laws of the spectra by an element
+-- the laws of the skeletons and the spectra by an element
+pub skeletons_of : (e : Element) (w h : ℕ) → SkeletonLaws (w * h) (shrink e w h) (swell e w h)
+skeletons_of e w h = pairs_restore (w * h) (shrink e w h) (swell e w h) (erosion_and_dilation_are_pair e w h)
+
 pub spectra_of : (e : Element) (w h : ℕ) → SpectrumLaws (w * h) (close e w h) (shrink e w h) (swell e w h)
 spectra_of e w h = spectra_of_both (w * h) (close e w h) (shrink e w h) (swell e w h) (closings_of e w h) (erosion_and_dilation_are_pair e w h)
 
@@ -147,30 +149,26 @@ module _ {X : Type 0} (height : X → ℕ) (top : ℕ) (bounded : (x : X) → he
   leaves_goes (ShowSheet place len) h = g
   leaves_goes (ShowTally place len) h = g
 
-  -- what is told of the sheet in a filled place
+  -- what is told of the sheets in filled places
   abbrev w : ℕ
   w = b.rack.outline.w
 
   abbrev tall : ℕ
   tall = b.rack.outline.h
 
-  rounds_told : (e : Element) (marker upper : ℕ) → Sources b.rack.outline marker upper → rounds (swell e w tall) (sheet_of b.rack marker) (sheet_of b.rack upper)
-      ≡ greatest_to top (λ a. rounds (swell e (bs a).rack.outline.w (bs a).rack.outline.h) (sheet_of (bs a).rack marker) (sheet_of (bs a).rack upper))
+  rounds_told : (e : Element) (marker upper : ℕ) → Sources b.rack.outline marker upper → rounds_of e b marker upper ≡ greatest_to top (λ a. rounds_of e (bs a) marker upper)
   rounds_told e marker upper src =
-      (regrow_laws e w tall).most_rounds top (sheet_of b.rack marker) (sheet_of b.rack upper) (g.reached.held.sized marker src.one_filled) (g.reached.held.sized upper src.other_filled) (g.reached.held.topped upper)
-      ∙ over_same max 0 top _ _ (λ a low. (λ i. rounds (swell e (sym (g.sum.rack a low) i).w (sym (g.sum.rack a low) i).h) (sym (g.sum.sheets a marker low) i) (sym (g.sum.sheets a upper low) i)))
+      (regrow_laws e w tall).most_rounds top (sheet_of b.rack marker) (sheet_of b.rack upper)
+      (g.reached.held.sized marker src.one_filled) (g.reached.held.sized upper src.other_filled) (g.reached.held.topped upper)
+      ∙ over_same max 0 top _ _ (λ a low. sym (λ i. rounds_by e (g.sum.rack a low i).w (g.sum.rack a low i).h (g.sum.sheets a marker low i) (g.sum.sheets a upper low i)))
 
-  spectrum_told : (e : Element) (depth place : ℕ) → b.rack.outline.filled place ≡ true → ListSum top (spectrum (close e w tall) (shrink e w tall) (swell e w tall) depth (sheet_of b.rack place))
-      (λ a. spectrum (close e (bs a).rack.outline.w (bs a).rack.outline.h) (shrink e (bs a).rack.outline.w (bs a).rack.outline.h) (swell e (bs a).rack.outline.w (bs a).rack.outline.h) depth (sheet_of (bs a).rack place))
-  spectrum_told e depth place filled = list_fold_same ◌+◌ 0 top _ _ _
-      (λ a low. (λ i. spectrum (close e (sym (g.sum.rack a low) i).w (sym (g.sum.rack a low) i).h) (shrink e (sym (g.sum.rack a low) i).w (sym (g.sum.rack a low) i).h) (swell e (sym (g.sum.rack a low) i).w (sym (g.sum.rack a low) i).h) depth (sym (g.sum.sheets a place low) i)))
-      ((spectra_of e w tall).sums top depth (sheet_of b.rack place) (g.reached.held.sized place filled) (g.reached.held.topped place))
-
-  skeleton_told : (e : Element) (depth place : ℕ) → b.rack.outline.filled place ≡ true → ListSum top (skeleton (shrink e w tall) (swell e w tall) depth (sheet_of b.rack place))
-      (λ a. skeleton (shrink e (bs a).rack.outline.w (bs a).rack.outline.h) (swell e (bs a).rack.outline.w (bs a).rack.outline.h) depth (sheet_of (bs a).rack place))
-  skeleton_told e depth place filled = list_fold_same ◌+◌ 0 top _ _ _
-      (λ a low. (λ i. skeleton (shrink e (sym (g.sum.rack a low) i).w (sym (g.sum.rack a low) i).h) (swell e (sym (g.sum.rack a low) i).w (sym (g.sum.rack a low) i).h) depth (sym (g.sum.sheets a place low) i)))
-      ((pairs_restore (w * tall) (shrink e w tall) (swell e w tall) (erosion_and_dilation_are_pair e w tall)).sums top depth (sheet_of b.rack place) (g.reached.held.sized place filled) (g.reached.held.topped place))
+  -- a list that is told of a sheet, where it is the sum of those of the cuts
+  list_told : (made : ℕ → ℕ → List ℕ → List ℕ)
+      → ((f : List ℕ) → length f ≡ w * tall → HeightsAtMost top f → ListSum top (made w tall f) (λ a. made w tall (cut a f)))
+      → (place : ℕ) → b.rack.outline.filled place ≡ true → ListSum top (list_of made b place) (λ a. list_of made (bs a) place)
+  list_told made sums place filled = list_fold_same ◌+◌ 0 top _ _ _
+      (λ a low. sym (λ i. made (g.sum.rack a low i).w (g.sum.rack a low i).h (g.sum.sheets a place low i)))
+      (sums (sheet_of b.rack place) (g.reached.held.sized place filled) (g.reached.held.topped place))
 
   extreme_told : (op : Operation) (place : ℕ) → extreme_of op (sheet_of b.rack place) ≡ sum_to top (λ a. extreme_of op (sheet_of (bs a).rack place))
   extreme_told op place = extreme_over_cuts op top (sheet_of b.rack place) (g.reached.held.topped place) ∙ over_same ◌+◌ 0 top _ _ (λ a low. ap (extreme_of op) (sym (g.sum.sheets a place low)))
@@ -187,7 +185,7 @@ module _ {X : Type 0} (height : X → ℕ) (top : ℕ) (bounded : (x : X) → he
   told_sum (Meet one other to) h = λ a low. refl
   told_sum (Join one other to) h = λ a low. refl
   told_sum (Regrow e marker upper to) h =
-      ((λ a. rounds (swell e (bs a).rack.outline.w (bs a).rack.outline.h) (sheet_of (bs a).rack marker) (sheet_of (bs a).rack upper)), (λ a low. refl), rounds_told e marker upper (make_sources b.rack.outline marker upper to h))
+      ((λ a. rounds_of e (bs a) marker upper), (λ a low. refl), rounds_told e marker upper (make_sources b.rack.outline marker upper to h))
   told_sum (Edge e from to) h = λ a low. refl
   told_sum (Peak e from to) h = λ a low. refl
   told_sum (Valley e from to) h = λ a low. refl
@@ -199,22 +197,17 @@ module _ {X : Type 0} (height : X → ℕ) (top : ℕ) (bounded : (x : X) → he
     (λ a low. refl),
     area_over_cuts top (sheet_of b.rack place) (g.reached.held.topped place) ∙ over_same ◌+◌ 0 top _ _ (λ a low. ap area (sym (g.sum.sheets a place low))),
   )
-  told_sum (Span place) h = (
-    (λ a. extreme_spot Erosion (bs a).rack.outline.w (sheet_of (bs a).rack place)),
-    (λ a. extreme_spot Dilation (bs a).rack.outline.w (sheet_of (bs a).rack place)),
-    (λ a low. refl),
-    extreme_told Erosion place,
-    extreme_told Dilation place,
-  )
+  told_sum (Span place) h =
+      ((λ a. extreme_of_sheet Erosion (bs a) place), (λ a. extreme_of_sheet Dilation (bs a) place), (λ a low. refl), extreme_told Erosion place, extreme_told Dilation place)
   told_sum (Spectrum e depth place len) h = (
-    (λ a. spectrum (close e (bs a).rack.outline.w (bs a).rack.outline.h) (shrink e (bs a).rack.outline.w (bs a).rack.outline.h) (swell e (bs a).rack.outline.w (bs a).rack.outline.h) depth (sheet_of (bs a).rack place)),
+    (λ a. list_of (spectrum_by e depth) (bs a) place),
     (λ a low. refl),
-    spectrum_told e depth place (depth_listed b.rack.outline depth place len _ h).filled,
+    list_told (spectrum_by e depth) ((spectra_of e w tall).sums top depth) place (depth_listed b.rack.outline depth place len _ h).filled,
   )
   told_sum (Skeleton e depth place len) h = (
-    (λ a. skeleton (shrink e (bs a).rack.outline.w (bs a).rack.outline.h) (swell e (bs a).rack.outline.w (bs a).rack.outline.h) depth (sheet_of (bs a).rack place)),
+    (λ a. list_of (skeleton_by e depth) (bs a) place),
     (λ a low. refl),
-    skeleton_told e depth place (depth_listed b.rack.outline depth place len _ h).filled,
+    list_told (skeleton_by e depth) ((skeletons_of e w tall).sums top depth) place (depth_listed b.rack.outline depth place len _ h).filled,
   )
   told_sum (ShowSheet place len) h = λ a low. ap SheetTold (g.sum.sheets a place low)
   told_sum (ShowTally place len) h = ((λ a. tally_of (bs a).slate place), (λ a low. refl), g.sum.tallies place)

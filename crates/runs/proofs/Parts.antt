@@ -4,17 +4,16 @@ use Rattle.std.proofs.Common.{◌≡◌, ℕ, List, length, Some, None, Option, 
 use Rattle.elements.specs.Elements.{offsets}
 use Rattle.limits.specs.declared.fault.Fault.{Fault}
 use Rattle.limits.specs.Faults.{tells, unless}
+use Rattle.elements.specs.declared.element.Element.{Element}
+use Rattle.morphology.specs.declared.operation.Operation.{Operation}
 use Rattle.morphology.specs.declared.operation.Operation.TheVariants.{Erosion, Dilation}
 use Rattle.morphology.specs.Cells.{joined, met}
 use Rattle.morphology.specs.Sheets.{area}
 use Rattle.bench.specs.Model.{State, Tally, sheet_of, tally_of}
 use Rattle.bench.specs.Calls.{Making, begin_refusal, by_element, end_refusal, ended, load_refusal, make_refusal, sheet_refusal, stored, visited}
 use Rattle.calls.specs.Told.{extreme_spot, show_sheet_refusal, show_tally_refusal}
-use Rattle.operators.specs.Reconstruction.{rounds}
-use Rattle.operators.specs.Skeletons.{skeleton}
-use Rattle.operators.specs.Spectra.{spectrum}
 use Rattle.operators.specs.Tallies.{differed}
-use Rattle.model.specs.ByElement.{close, closing_by, opening_by, reconstruction_by, shrink, swell}
+use Rattle.model.specs.ByElement.{closing_by, opening_by, reconstruction_by, rounds_by, skeleton_by, spectrum_by}
 use Rattle.model.specs.Calls.{Call, Begin, End, Load, Erode, Dilate, Open, Close, Meet, Join, Regrow, Edge, Peak, Valley, Differ, Add, Scale, Area, Span, Spectrum, Skeleton, ShowSheet, ShowTally, Told, NothingTold, SlipTold, RoundsTold, AreaTold, SpanTold, SpectrumTold, SkeletonTold, SheetTold, TallyTold}
 use Rattle.model.specs.ListCalls.{skeleton_refusal, spectrum_refusal}
 use Rattle.model.specs.SheetCalls.{close_refusal, open_refusal}
@@ -87,21 +86,23 @@ leaves b (Add one other to) = with_tally b to (sum_of_tallies (tally_of b.slate 
 leaves b (Scale factor from to) = with_tally b to (multiple factor (tally_of b.slate from))
 leaves b call = b
 
+-- what is told of the sheets in places of a bench: the rounds of a reconstruction, a spot, and a list
+abbrev pub rounds_of : Element → Bench → ℕ → ℕ → ℕ
+rounds_of e b marker upper = rounds_by e b.rack.outline.w b.rack.outline.h (sheet_of b.rack marker) (sheet_of b.rack upper)
+
+abbrev pub extreme_of_sheet : Operation → Bench → ℕ → ℕ × ℕ × ℕ
+extreme_of_sheet op b place = extreme_spot op b.rack.outline.w (sheet_of b.rack place)
+
+abbrev pub list_of : (ℕ → ℕ → List ℕ → List ℕ) → Bench → ℕ → List ℕ
+list_of made b place = made b.rack.outline.w b.rack.outline.h (sheet_of b.rack place)
+
 abbrev pub told_by : Bench → Call ℕ → Told
 told_by b (Begin flat) = SlipTold flat
-told_by b (Regrow e marker upper to) =
-    RoundsTold (rounds (swell e b.rack.outline.w b.rack.outline.h) (sheet_of b.rack marker) (sheet_of b.rack upper))
+told_by b (Regrow e marker upper to) = RoundsTold (rounds_of e b marker upper)
 told_by b (Area place) = AreaTold (area (sheet_of b.rack place))
-told_by b (Span place) =
-    SpanTold (extreme_spot Erosion b.rack.outline.w (sheet_of b.rack place)) (extreme_spot Dilation b.rack.outline.w (sheet_of b.rack place))
-told_by b (Spectrum e depth place len) =
-    let w = b.rack.outline.w in
-    let h = b.rack.outline.h in
-    SpectrumTold (spectrum (close e w h) (shrink e w h) (swell e w h) depth (sheet_of b.rack place))
-told_by b (Skeleton e depth place len) =
-    let w = b.rack.outline.w in
-    let h = b.rack.outline.h in
-    SkeletonTold (skeleton (shrink e w h) (swell e w h) depth (sheet_of b.rack place))
+told_by b (Span place) = SpanTold (extreme_of_sheet Erosion b place) (extreme_of_sheet Dilation b place)
+told_by b (Spectrum e depth place len) = SpectrumTold (list_of (spectrum_by e depth) b place)
+told_by b (Skeleton e depth place len) = SkeletonTold (list_of (skeleton_by e depth) b place)
 told_by b (ShowSheet place len) = SheetTold (sheet_of b.rack place)
 told_by b (ShowTally place len) = TallyTold (tally_of b.slate place)
 told_by b call = NothingTold
@@ -153,9 +154,9 @@ module _ (b : Bench) where
   tells_part tell (Some fault) x = refl
 
   pub answer_parts : (c : Call ℕ) → answer b c ≡ tells (refusal b c) (told_by b c)
-  answer_parts (Regrow e marker upper to) = tells_part RoundsTold (refusal b (Regrow e marker upper to)) (rounds (swell e b.rack.outline.w b.rack.outline.h) (sheet_of b.rack marker) (sheet_of b.rack upper))
+  answer_parts (Regrow e marker upper to) = tells_part RoundsTold (refusal b (Regrow e marker upper to)) (rounds_of e b marker upper)
   answer_parts (Area place) = tells_part AreaTold (refusal b (Area place)) (area (sheet_of b.rack place))
-  answer_parts (Span place) = tells_part (λ spots. SpanTold spots.0 spots.1) (refusal b (Span place)) (extreme_spot Erosion b.rack.outline.w (sheet_of b.rack place), extreme_spot Dilation b.rack.outline.w (sheet_of b.rack place))
-  answer_parts (Spectrum e depth place len) = tells_part SpectrumTold (refusal b (Spectrum e depth place len)) (spectrum (close e b.rack.outline.w b.rack.outline.h) (shrink e b.rack.outline.w b.rack.outline.h) (swell e b.rack.outline.w b.rack.outline.h) depth (sheet_of b.rack place))
-  answer_parts (Skeleton e depth place len) = tells_part SkeletonTold (refusal b (Skeleton e depth place len)) (skeleton (shrink e b.rack.outline.w b.rack.outline.h) (swell e b.rack.outline.w b.rack.outline.h) depth (sheet_of b.rack place))
+  answer_parts (Span place) = tells_part (λ spots. SpanTold spots.0 spots.1) (refusal b (Span place)) (extreme_of_sheet Erosion b place, extreme_of_sheet Dilation b place)
+  answer_parts (Spectrum e depth place len) = tells_part SpectrumTold (refusal b (Spectrum e depth place len)) (list_of (spectrum_by e depth) b place)
+  answer_parts (Skeleton e depth place len) = tells_part SkeletonTold (refusal b (Skeleton e depth place len)) (list_of (skeleton_by e depth) b place)
   answer_parts call = refl

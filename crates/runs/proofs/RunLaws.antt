@@ -4,20 +4,17 @@ use Rattle.std.specs.List.{list_any}
 use Rattle.std.specs.Prelude.{drop, sum}
 use Rattle.std.proofs.lemmas.List.{length-replicate}
 use Rattle.std.proofs.lemmas.Bool.{eq-eqb, le-leb, le-ltb}
-use Rattle.elements.specs.declared.element.Element.{Element}
 use Rattle.limits.specs.Sizes.{lawful_side, lawful_size}
 use Rattle.bench.specs.Model.{sheet_of}
 use Rattle.bench.specs.Calls.{begin_refusal}
 use Rattle.operators.specs.Maps.{times}
 use Rattle.operators.specs.Restoring.{answer_list, rebuilt, restored, written}
 use Rattle.operators.specs.Skeletons.{skeleton}
-use Rattle.laws.specs.Skeletons.{SkeletonLaws}
 use Rattle.operators.specs.Spectra.{spectrum}
 use Rattle.laws.specs.Sums.{HeightsAtMost}
 use Rattle.laws.proofs.ElementLaws.{erosion_and_dilation_are_pair}
 use Rattle.laws.proofs.Maps.{flat_times, flat_topped}
-use Rattle.laws.proofs.Skeletons.{pairs_restore}
-use Rattle.runs.proofs.Calls.{spectra_of}
+use Rattle.runs.proofs.Calls.{skeletons_of, spectra_of}
 use Rattle.model.specs.Calls.{Begin, Skeleton, SkeletonTold, SlipTold, Spectrum, SpectrumTold}
 use Rattle.model.specs.ByElement.{shrink, close, swell}
 use Rattle.model.specs.Steps.{Bench, BenchSizes, after, answer, bench_opened}
@@ -33,9 +30,6 @@ none_above top [] t low = refl
 none_above top (x ∷ f) t low =
     let first : x ≤ top = t 0 in
     rw (le-ltb 65536 x (omega arith)) (none_above top f (λ p. t (suc p)) low)
-
-pub skeletons_of : (e : Element) (w h : ℕ) → SkeletonLaws (w * h) (shrink e w h) (swell e w h)
-skeletons_of e w h = pairs_restore (w * h) (shrink e w h) (swell e w h) (erosion_and_dilation_are_pair e w h)
 
 -- a list of as many zeros as a sheet of a bench has cells
 abbrev blank : Bench → List ℕ

@@ -12,7 +12,7 @@ use Rattle.operators.specs.Openings.{opening}
 use Rattle.operators.specs.Reconstruction.{reconstructed, rounds}
 use Rattle.operators.specs.Restoring.{answer_list, restore_refusal, restored, work_list}
 use Rattle.operators.specs.Skeletons.{skeleton}
-use Rattle.operators.specs.Spectra.{spectrum}
+use Rattle.operators.specs.Spectra.{opening_spectrum, spectrum}
 use Rattle.operators.specs.Tallies.{added, differed, edge, peak, scaled}
 use Rattle.operators.specs.Valleys.{valley}
 
@@ -32,6 +32,9 @@ line = 0 ∷ 2 ∷ 1 ∷ 2 ∷ 0 ∷ []
 
 abbrev line_skeleton : List ℕ
 line_skeleton = skeleton (shrink 5) (swell 5) 2 line
+
+abbrev longer_line : List ℕ
+longer_line = 0 ∷ 2 ∷ 1 ∷ 2 ∷ 3 ∷ 4 ∷ 0 ∷ 4 ∷ 4 ∷ 1 ∷ 2 ∷ 3 ∷ 2 ∷ 1 ∷ 0 ∷ []
 
 -- What the definitions give, and what it has to be.
 abbrev pub figures : List (List ℤ × List ℤ)
@@ -69,6 +72,8 @@ further_figures =
     -- of two cells the opening of size 2, which one of size 1 keeps, and the peak, which has nothing of it
     ∷ (map pos (opening (shrink 3) (swell 3) 2 (1 ∷ 1 ∷ 0 ∷ [])), pos 0 ∷ pos 0 ∷ pos 0 ∷ [])
     ∷ (peak (shrink 3) (swell 3) (1 ∷ 1 ∷ 0 ∷ []), pos 0 ∷ pos 0 ∷ pos 0 ∷ [])
+    -- the spectrum from size 0 to 6 of a line of fifteen cells, as it was published, and the rest
+    ∷ (map pos (opening_spectrum (shrink 15) (swell 15) 7 longer_line), pos 3 ∷ pos 8 ∷ pos 6 ∷ pos 0 ∷ pos 5 ∷ pos 0 ∷ pos 7 ∷ pos 0 ∷ [])
     -- edge and valley; a sum and a multiple of differences
     ∷ (edge (shrink 5) line, pos 0 ∷ pos 1 ∷ pos 0 ∷ pos 2 ∷ pos 0 ∷ [])
     ∷ (valley (close 5) line, pos 0 ∷ pos 0 ∷ pos 1 ∷ pos 0 ∷ pos 2 ∷ [])

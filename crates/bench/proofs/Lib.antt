@@ -4,4 +4,4 @@ pub mod Opened
 pub mod Stored
 pub mod Places
 pub mod Unused
-pub mod Visits
+pub mod KeptVisits

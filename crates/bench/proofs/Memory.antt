@@ -1,9 +1,9 @@
 -- Cells written into memory, as the code writes them and by their heights. Assumes nothing.
-use Rattle.std.proofs.Common.{◌≡◌, ℕ, ◌+◌, ◌*◌, ◌≤◌, List, [], ◌∷◌, ◌++◌, map, length, take, drop, replicate, Ok, subst, sym, refl, ap, ◌∙◌}
+use Rattle.std.proofs.Common.{◌≡◌, ℕ, ◌+◌, ◌*◌, ◌≤◌, List, [], ◌∷◌, ◌++◌, map, length, take, drop, replicate, None, subst, sym, refl, ap, ◌∙◌}
 use Rattle.std.specs.List.{FoldsTo}
 use Rattle.std.proofs.lemmas.List.{map-append, take-map, drop-map, length-map}
 use Rattle.std.proofs.lemmas.Bool.{le-leb, eq-eqb}
-use Rattle.morphology.specs.Cells.{two_sheets_answer}
+use Rattle.morphology.specs.Sheets.{lists_refusal}
 use Rattle.bench.specs.Model.{overwritten}
 
 -- the heights of memory that was written to
@@ -14,9 +14,11 @@ map-overwritten f start cells memory =
     ∙ ap (λ back. take start (map f memory) ++ back)
     (map-append f cells _ ∙ ap (λ rest. map f cells ++ rest) (sym (drop-map f (start + length cells) memory) ∙ ap (λ n. drop (start + n) (map f memory)) (sym (length-map cells f))))
 
--- lists of the right length with lawful sides are accepted
-pub two_sheets_accepted : (w h one other to : ℕ) → 1 ≤ w → w ≤ 1024 → 1 ≤ h → h ≤ 1024 → one ≡ w * h → other ≡ w * h → to ≡ w * h → two_sheets_answer w h one other to ≡ Ok tt
-two_sheets_accepted w h one other to a b c d e f g = rw (le-leb 1 w a, le-leb w 1024 b, le-leb 1 h c, le-leb h 1024 d, eq-eqb one (w * h) e, eq-eqb other (w * h) f, eq-eqb to (w * h) g) refl
+-- four lists of the right length with lawful sides are accepted
+pub lists_accepted : (w h one other to spare : ℕ) → 1 ≤ w → w ≤ 1024 → 1 ≤ h → h ≤ 1024 → one ≡ w * h → other ≡ w * h → to ≡ w * h → spare ≡ w * h
+    → lists_refusal w h (one ∷ other ∷ to ∷ spare ∷ []) ≡ None
+lists_accepted w h one other to spare a b c d e f g i =
+    rw (le-leb 1 w a, le-leb w 1024 b, le-leb 1 h c, le-leb h 1024 d, eq-eqb one (w * h) e, eq-eqb other (w * h) f, eq-eqb to (w * h) g, eq-eqb spare (w * h) i) refl
 
 -- the heights of a part of memory
 pub heights_of_cells : {X : Type 0} (height : X → ℕ) (start n : ℕ) (memory : List X) → map height (take n (drop start memory)) ≡ take n (drop start (map height memory))

@@ -1,9 +1,12 @@
 -- A place of a rack or a slate in its memory. Assumes nothing.
-use Rattle.std.proofs.Common.{◌≡◌, ℕ, ◌+◌, ◌*◌, ◌≤◌, true, is_some, leb, List, [], length, option_map, Option, Some, None, refl, sym, unwrap_or, arith}
-use Rattle.std.proofs.lemmas.List.{length-take, length-drop}
-use Rattle.std.proofs.lemmas.Bool.{and_parts, false≢true, leb-true}
+use Rattle.std.proofs.Common.{◌≡◌, ℕ, ◌+◌, ◌-◌, ◌*◌, ◌≤◌, true, is_some, leb, List, [], length, take, drop, option_map, Option, Some, None, refl, ap, sym, ◌∙◌, inl, inr, unwrap_or, add-mul, arith}
+use Rattle.std.proofs.lemmas.List.{length-take, length-drop, places, same_lists}
+use Rattle.std.proofs.lemmas.Bool.{and_parts, cases_Bool, false≢true, leb-true}
 use Rattle.bench.specs.declared.marks.Marks.{Marks}
-use Rattle.bench.specs.Model.{cells_of, is_place, kept, place_start, state_of}
+use Rattle.bench.specs.declared.rack.Rack.{Rack}
+use Rattle.bench.specs.Model.{cells_of, is_place, kept, outline_of, place_start, places_of, sheet_held, sheet_of, state_of}
+use Rattle.bench.specs.Calls.{OfTwo, made_from, made_of}
+use Rattle.bench.proofs.Refusals.{MadeFrom}
 use Rattle.bench.proofs.Stored.{place_within}
 
 module _ {T : Type 0} (m : Marks T) (k : ℕ) (place : is_place m.places k ≡ true) where
@@ -19,20 +22,54 @@ module _ {T : Type 0} (m : Marks T) (k : ℕ) (place : is_place m.places k ≡ t
   pub some_cells : (1 ≤ m.w) × (1 ≤ m.h)
   some_cells = let some = some_places in (omega (arith, m.some_column), omega (arith, m.some_row))
 
-  -- memory of all places has all its cells
-  module _ {X : Type 0} (memory : List X) (sized : length memory ≡ m.places * (m.w * m.h)) where
+  -- memory of all places, and more, has all its cells
+  module _ {X : Type 0} (memory : List X) (room : m.places * (m.w * m.h) ≤ length memory) where
     pub place_in_memory : place_start (m.w * m.h) k + m.w * m.h ≤ length memory
-    place_in_memory = rw sized (place_within (m.w * m.h) m.places k place)
+    place_in_memory = omega (arith, room, place_within (m.w * m.h) m.places k place)
 
     pub length-cells_of : length (cells_of (m.w * m.h) k memory) ≡ m.w * m.h
     length-cells_of = let within = place_in_memory in simp (length-take, length-drop) (omega arith)
+
+-- the memory of a rack has room for its places, and behind them for two planes
+pub places_fit : (places cells n : ℕ) → n ≡ (places + 2) * cells → (places * cells ≤ n) × (n - places * cells ≡ 2 * cells)
+places_fit places cells n is = let all = add-mul places 2 cells in (omega arith, omega arith)
+
+pub rack_room : {L : Type 0} (r : Rack L) (k : ℕ) → is_place r.marks.places k ≡ true → r.marks.places * (r.marks.w * r.marks.h) ≤ length r.memory.now
+rack_room r k place = (places_fit r.marks.places (r.marks.w * r.marks.h) (length r.memory.now) (r.sized (some_places r.marks k place))).0
+
+-- cells in the front of a memory
+cells_in_front : {X : Type 0} (start n front : ℕ) (memory : List X) → start + n ≤ front → take n (drop start (take front memory)) ≡ take n (drop start memory)
+cells_in_front start n front memory within = same_lists _ _ (simp (length-take, length-drop) (omega arith)) (λ k d h. grind (arith, places))
+
+-- the state is told by the memory of the places alone
+pub state_of_places : {T X C : Type 0} (holds : T → List X → C) (m : Marks T) (memory : List X) → state_of holds m (places_of m memory) ≡ state_of holds m memory
+state_of_places holds m memory = λ i. record { outline = outline_of m; content = λ k. content k i }
+  where
+    content : (k : ℕ) → option_map (λ t. holds t (cells_of (m.w * m.h) k (places_of m memory))) (kept m k) ≡ option_map (λ t. holds t (cells_of (m.w * m.h) k memory)) (kept m k)
+    content k = elim (cases_Bool (is_place m.places k)) [
+      | inl there ↦
+          ap (λ cells. option_map (λ t. holds t cells) (kept m k))
+          (cells_in_front (place_start (m.w * m.h) k) (m.w * m.h) (m.places * (m.w * m.h)) memory (place_within (m.w * m.h) m.places k there))
+      | inr off ↦ rw off refl
+    ]
 
 -- a place that something is kept for holds what is made of that and of its cells
 pub content_kept : {T X C : Type 0} (holds : T → List X → C) (m : Marks T) (memory : List X) (k : ℕ) (t : T) (cells : List X)
     → kept m k ≡ Some t → cells ≡ cells_of (m.w * m.h) k memory → (state_of holds m memory).content k ≡ Some (holds t cells)
 content_kept holds m memory k t cells is those = λ i. option_map (λ u. holds u (sym those i)) (is i)
 
--- a filled place of a rack holds its cells as a sheet
+-- a filled place of a rack holds its cells as a sheet, and what is made of its sheets is made of the cells of their places
 pub filled_sheet : {T : Type 0} (o : Option T) (cells : List ℕ) → is_some o ≡ true → cells ≡ unwrap_or (option_map (λ nothing. cells) o) []
 filled_sheet None cells some = absurd (false≢true some)
 filled_sheet (Some t) cells some = refl
+
+module _ {X : Type 0} (made : OfTwo X) (m : Marks (Unit {0})) (heights : List ℕ) (one other to : ℕ) (from : MadeFrom (outline_of m) one other to) where
+  sheet_there : (k : ℕ) → is_place m.places k ≡ true → is_some (kept m k) ≡ true
+      → cells_of (m.w * m.h) k (places_of m heights) ≡ sheet_of (state_of sheet_held m heights) k
+  sheet_there k there filled =
+      cells_in_front (place_start (m.w * m.h) k) (m.w * m.h) (m.places * (m.w * m.h)) heights (place_within (m.w * m.h) m.places k there)
+      ∙ filled_sheet (kept m k) (cells_of (m.w * m.h) k heights) filled
+
+  pub made_from_places : made_from made m.w m.h (place_start (m.w * m.h) one) (place_start (m.w * m.h) other) (places_of m heights)
+      ≡ made_of made (state_of sheet_held m heights) one other
+  made_from_places = λ i. made m.w m.h (sheet_there one from.one_place from.one_filled i) (sheet_there other from.other_place from.other_filled i)

@@ -5,7 +5,7 @@ use Rattle.limits.specs.declared.fault.Fault.{Fault}
 use Rattle.limits.specs.Faults.{first}
 use Rattle.bench.specs.Model.{Outline, is_place}
 use Rattle.bench.specs.Calls.{load_refusal, make_refusal, source_refusal}
-use Rattle.limits.specs.Faults.{told, unless}
+use Rattle.limits.specs.Faults.{tells, told, unless}
 
 pub refused_leaves : {S : Type 0} (o : Option Fault) (e : Fault) (new old : S) → Err e ≡ told o → old ≡ unless o new old
 refused_leaves None e new old h = absurd (let z : ◌≡◌ {A = ℕ} 0 1 = cc in omega arith)
@@ -14,6 +14,15 @@ refused_leaves (Some f) e new old h = refl
 pub accepted_leaves : {S : Type 0} (o : Option Fault) (new old : S) → Ok tt ≡ told o → new ≡ unless o new old
 accepted_leaves None new old h = refl
 accepted_leaves (Some f) new old h = absurd (let z : ◌≡◌ {A = ℕ} 0 1 = cc in omega arith)
+
+-- and what a call tells
+pub refused_tells : {X : Type 0} (o : Option Fault) (e : Fault) (x : X) → Err e ≡ told o → Err e ≡ tells o x
+refused_tells None e x h = absurd (let z : ◌≡◌ {A = ℕ} 0 1 = cc in omega arith)
+refused_tells (Some f) e x h = cc
+
+pub accepted_tells : {X : Type 0} (o : Option Fault) (x : X) → Ok tt ≡ told o → Ok x ≡ tells o x
+accepted_tells None x h = refl
+accepted_tells (Some f) x h = absurd (let z : ◌≡◌ {A = ℕ} 0 1 = cc in omega arith)
 
 -- a table that refuses nothing has passed its first test
 passed_first : (test : Bool) (fault : Fault) (rest : Option Fault) → Ok tt ≡ told (first test fault rest) → (test ≡ false) × (Ok tt ≡ told rest)

@@ -38,7 +38,7 @@ place_within c n k place =
     omega (arith, mul-le (k - 1 + 1) c n c (omega arith) (omega arith), add-mul (k - 1) 1 c, one-mul c)
 
 module _ {T X C : Type 0} (holds : T → List X → C) (m : Marks T) (k : ℕ) (t : T) (cells memory : List X)
-    (place : is_place m.places k ≡ true) (long : length cells ≡ m.w * m.h) (room : length memory ≡ m.places * (m.w * m.h)) where
+    (place : is_place m.places k ≡ true) (long : length cells ≡ m.w * m.h) (room : m.places * (m.w * m.h) ≤ length memory) where
   low : 1 ≤ k
   low = leb-true 1 k (and_parts (leb 1 k) (leb k m.places) place).0
 

@@ -1,15 +1,13 @@
 -- The calls on the bench: what each refuses, in order, and what it leaves. Assumes nothing.
-use Rattle.std.specs.Prelude.{ℕ, ◌*◌, Bool, true, false, cond, not, ◌&&◌, ◌||◌, ◌≡◌, List, length, map, ℤ, is_some, Some, None, Option, Result, MatchResult, OnErr, ◌==◌}
-use Rattle.morphology.specs.Sheets.{area}
-use Rattle.morphology.specs.Erosion.{operated}
-use Rattle.morphology.specs.declared.operation.Operation.{Operation}
+use Rattle.std.specs.Prelude.{ℕ, ◌*◌, Bool, true, false, cond, not, ◌&&◌, ◌||◌, ◌≡◌, List, length, map, replicate, is_some, Some, None, Option, Result, MatchResult, ◌==◌}
+use Rattle.std.specs.Borrow.{MutBor}
 use Rattle.limits.specs.declared.fault.Fault.{Fault}
 use Rattle.limits.specs.declared.fault.Fault.TheVariants.{Length, SheetPlace, TallyPlace, Flat, NoVisit, VisitOpen, OtherFlat, EmptySheet, EmptyTally, Unequal}
 use Rattle.bench.specs.declared.marks.Marks.{Marks}
 use Rattle.limits.specs.Faults.{first, tells, told, unless}
 use Rattle.limits.specs.Sizes.{lawful_flat, sizes_refusal}
 use Rattle.bench.specs.declared.rack.Rack.{Rack}
-use Rattle.bench.specs.Model.{Outline, State, cells_from, is_place, overwritten, place_start, rack_outline, rack_state, sheet_of}
+use Rattle.bench.specs.Model.{Outline, State, cells_from, flat_of, is_place, overwritten, place_start, places_of, rack_outline, rack_state, sheet_of}
 
 -- every place empty, and no visit open
 abbrev pub opened : {C : Type 0} → ℕ → ℕ → ℕ → State C
@@ -58,10 +56,6 @@ sheet_refusal = source_refusal SheetPlace EmptySheet
 abbrev pub tally_refusal : Outline → ℕ → Option Fault
 tally_refusal = source_refusal TallyPlace EmptyTally
 
--- area: the sum of the heights
-abbrev pub area_answer : State (List ℕ) → ℕ → Result ℕ Fault
-area_answer s k = tells (sheet_refusal s.outline k) (area (sheet_of s k))
-
 -- a sheet made of those in two places into a third, each the same as another or not: the places, then the visit, then the sources
 abbrev pub make_refusal : Outline → ℕ → ℕ → ℕ → Option Fault
 make_refusal o one other to =
@@ -69,50 +63,62 @@ make_refusal o one other to =
     (first (not (is_some o.visit)) NoVisit
     (first (not (o.filled one && o.filled other)) EmptySheet None))
 
--- what is made of two sheets, by their sides
+-- what is made or told of two sheets, by their sides
+abbrev pub OfTwo : Type 0 → Type 0
+OfTwo X = ℕ → ℕ → List ℕ → List ℕ → X
+
+-- a sheet that is made of two
 abbrev pub Making : Type 0
-Making = ℕ → ℕ → List ℕ → List ℕ → List ℕ
+Making = OfTwo (List ℕ)
 
--- erosion and dilation by an element of these offsets: of the two sheets only the first is read
-abbrev pub by_element : Operation → List (ℤ × ℤ) → Making
-by_element op offsets w h f g = operated op w h offsets f
-
--- what is made of the sheets from two starts in memory of heights
-abbrev pub made_from : Making → ℕ → ℕ → ℕ → ℕ → List ℕ → List ℕ
+-- what is made or told of the sheets from two starts in memory of heights, and of those in two places
+abbrev pub made_from : {X : Type 0} → OfTwo X → ℕ → ℕ → ℕ → ℕ → List ℕ → X
 made_from made w h one other heights = made w h (cells_from one (w * h) heights) (cells_from other (w * h) heights)
 
--- the state after a sheet was made, and the heights in memory after it
+abbrev pub made_of : {X : Type 0} → OfTwo X → State (List ℕ) → ℕ → ℕ → X
+made_of made s one other = made s.outline.w s.outline.h (sheet_of s one) (sheet_of s other)
+
+-- the state after a sheet was made, and the heights in the memory of all places after it
 abbrev pub make_leaves : Making → State (List ℕ) → ℕ → ℕ → ℕ → State (List ℕ)
 make_leaves made s one other to =
-    unless (make_refusal s.outline one other to)
-    (stored s to (made s.outline.w s.outline.h (sheet_of s one) (sheet_of s other))) s
+    unless (make_refusal s.outline one other to) (stored s to (made_of made s one other)) s
 
 abbrev pub make_writes : {T : Type 0} → Making → Marks T → ℕ → ℕ → ℕ → List ℕ → List ℕ
 make_writes made m one other to heights =
     let cells = m.w * m.h in
     overwritten (place_start cells to) (made_from made m.w m.h (place_start cells one) (place_start cells other) heights) heights
 
--- A call makes a sheet so: it tells its refusal or nothing, leaves the state by its definition, and of the memory changes just
--- the target's cells; the working planes are free, but a refusal leaves them too.
-pub record MakesSheet {L : Type 0} (height : L → ℕ) (made : Making) (was is : Rack L) (one other to : ℕ)
-    (answer : Result (Unit {0}) Fault) : Type 0 where
-  pub answers : answer ≡ told (make_refusal (rack_outline was) one other to)
+-- the memory is the one that was lent, and as long
+pub record SameMemory {X : Type 0} (was is : MutBor (List X)) : Type 0 where
+  pub reference : is.ghost_name ≡ was.ghost_name
+  pub long : length is.now ≡ length was.now
+
+-- A call makes a sheet so: it tells its refusal, or what is told of the sources; leaves the state by its definition; and of the
+-- places changes just the target's cells. The working planes are free, but a refusal leaves them too.
+pub record MakesSheet {L T : Type 0} (height : L → ℕ) (made : Making) (told : OfTwo T) (was is : Rack L) (one other to : ℕ)
+    (answer : Result T Fault) : Type 0 where
+  pub answers : answer ≡ tells (make_refusal (rack_outline was) one other to) (made_of told (rack_state height was) one other)
   pub steps : rack_state height is ≡ make_leaves made (rack_state height was) one other to
   pub memory : MatchResult answer
-      (λ _. map height is.sheets.now ≡ make_writes made was.marks one other to (map height was.sheets.now))
-      (λ _. is.sheets.now ≡ was.sheets.now)
-  pub planes : OnErr answer (is.planes.now ≡ was.planes.now)
+      (λ _. places_of was.marks (map height is.memory.now)
+      ≡ make_writes made was.marks one other to (places_of was.marks (map height was.memory.now)))
+      (λ _. is.memory.now ≡ was.memory.now)
+  pub lent : SameMemory was.memory is.memory
 
--- the same number, where no visit counts as a number of its own
-abbrev pub same_visit : Option ℕ → Option ℕ → Bool
-same_visit None None = true
-same_visit None (Some b) = false
-same_visit (Some a) None = false
-same_visit (Some a) (Some b) = a == b
+-- nothing is told of two sheets
+abbrev pub nothing_told : OfTwo (Unit {0})
+nothing_told w h f g = tt
 
--- rack and slate have the same sides and the same visit, or none
+-- the same flat, where no visit counts as a flat of its own
+abbrev pub same_flat : Option ℕ → Option ℕ → Bool
+same_flat None None = true
+same_flat None (Some b) = false
+same_flat (Some a) None = false
+same_flat (Some a) (Some b) = a == b
+
+-- rack and slate have the same sides, and visits to the same flat or none
 abbrev pub equal_benches : Outline → Outline → Bool
-equal_benches r s = (r.w == s.w && r.h == s.h) && same_visit r.visit s.visit
+equal_benches r s = (r.w == s.w && r.h == s.h) && same_flat (flat_of r.visit) (flat_of s.visit)
 
 -- begin: the flat's number, then no visit open on either, then rack and slate equal
 abbrev pub begin_refusal : Outline → Outline → ℕ → Option Fault
@@ -121,14 +127,14 @@ begin_refusal r s flat =
     (first (is_some r.visit || is_some s.visit) VisitOpen
     (first (not (equal_benches r s)) Unequal None))
 
--- the state with a visit open
-abbrev pub visited : {C : Type 0} → State C → ℕ → State C
-visited s flat = record {
+-- the state with a visit to a flat open
+abbrev pub with_visit : {C : Type 0} → State C → ℕ → State C
+with_visit s flat = record {
   outline = record {
     w = s.outline.w;
     h = s.outline.h;
     places = s.outline.places;
-    visit = Some flat;
+    visit = Some (record { flat = flat });
     filled = s.outline.filled;
   };
   content = s.content;
@@ -136,14 +142,18 @@ visited s flat = record {
 
 -- what begin leaves of a rack or a slate, by the outlines of both
 abbrev pub begin_leaves : {C : Type 0} → Outline → Outline → ℕ → State C → State C
-begin_leaves rack slate flat s = unless (begin_refusal rack slate flat) (visited s flat) s
+begin_leaves rack slate flat s = unless (begin_refusal rack slate flat) (with_visit s flat) s
 
 -- end: a visit open on the rack, then the slip of its flat, then rack and slate equal
 abbrev pub end_refusal : Outline → Outline → ℕ → Option Fault
 end_refusal r s flat =
     first (not (is_some r.visit)) NoVisit
-    (first (not (same_visit r.visit (Some flat))) OtherFlat
+    (first (not (same_flat (flat_of r.visit) (Some flat))) OtherFlat
     (first (not (equal_benches r s)) Unequal None))
+
+-- memory after an accepted end: all lowest, or zero, where there are places; without places it stays
+abbrev pub wiped : {X : Type 0} → ℕ → X → List X → List X
+wiped places lowest memory = cond (places == 0) memory (replicate (length memory) lowest)
 
 -- an accepted end leaves what an opening with the same sides and places leaves
 abbrev pub ended : {C : Type 0} → State C → State C

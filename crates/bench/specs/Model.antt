@@ -4,21 +4,26 @@ use Rattle.bench.specs.declared.marks.Marks.{Marks}
 use Rattle.bench.specs.declared.rack.Rack.{Rack}
 use Rattle.bench.specs.declared.slate.Slate.{Slate}
 use Rattle.bench.specs.declared.slip.Slip.{Slip}
+use Rattle.bench.specs.declared.visit.Visit.{Visit}
 
--- The outline of a rack or a slate: its sides, how many places it has, the flat of the open visit or none, and which
+-- The outline of a rack or a slate: its sides, how many places it has, the open visit or none, and which
 -- places, counted from 1, are filled. Every refusal of the bench is told from outlines, and 36 also from the weight of the tally to be
 -- made.
 pub record Outline : Type 0 where
   pub w : ℕ
   pub h : ℕ
   pub places : ℕ
-  pub visit : Option ℕ
+  pub visit : Option Visit
   pub filled : ℕ → Bool
 
 -- A tally: a signed number for each cell, and a weight.
 pub record Tally : Type 0 where
   pub cells : List ℤ
   pub weight : ℕ
+
+-- the flat of a visit, if one is open
+abbrev pub flat_of : Option Visit → Option ℕ
+flat_of visit = option_map (λ v. v.flat) visit
 
 -- The outline, and what each place holds or that it is empty: a place of a rack holds a sheet of heights, one of a slate a tally.
 pub record State (C : Type 0) : Type 0 where
@@ -51,6 +56,10 @@ cells_of cells k memory = cells_from (place_start cells k) cells memory
 -- memory with other cells from a start on
 abbrev pub overwritten : {X : Type 0} → ℕ → List X → List X → List X
 overwritten start cells memory = take start memory ++ (cells ++ drop (start + length cells) memory)
+
+-- the memory of all places, which the working planes follow
+abbrev pub places_of : {T X : Type 0} → Marks T → List X → List X
+places_of m memory = take (m.places * (m.w * m.h)) memory
 
 -- marks with the same sides and places
 pub record SameSizes {T : Type 0} (was is : Marks T) : Type 0 where
@@ -92,7 +101,7 @@ sheet_held nothing cells = cells
 
 -- the state of a rack whose levels have these heights
 abbrev pub rack_state : {L : Type 0} → (L → ℕ) → Rack L → State (List ℕ)
-rack_state height r = state_of sheet_held r.marks (map height r.sheets.now)
+rack_state height r = state_of sheet_held r.marks (map height r.memory.now)
 
 -- what a place of a slate holds: of a tally its weight is kept beside its cells
 abbrev pub tally_held : ℕ → List ℤ → Tally
@@ -100,13 +109,12 @@ tally_held weight cells = record { cells = cells; weight = weight }
 
 -- the state of a slate
 abbrev pub slate_state : Slate → State Tally
-slate_state s = state_of tally_held s.marks s.tallies.now
+slate_state s = state_of tally_held s.marks s.memory.now
 
 -- what a rack and its slate have in common during a visit: the visit, and the sides
-abbrev pub shared : Outline → Option ℕ × ℕ × ℕ
+abbrev pub shared : Outline → Option Visit × ℕ × ℕ
 shared o = (o.visit, o.w, o.h)
 
--- the flat on a slip, if there is one
-abbrev pub slip_flat : Option Slip → Option ℕ
-slip_flat None = None
-slip_flat (Some slip) = Some slip.flat
+-- the visit that a slip was handed out for, if there is one
+abbrev pub slip_visit : Option Slip → Option Visit
+slip_visit slip = option_map (λ s. record { flat = s.flat }) slip

@@ -1,6 +1,8 @@
 // The bench: a rack of sheets and a slate of tallies in lent memory, and the visits on them.
 #![tactic(auto)]
 
+mod clearing;
+mod loading;
 mod marking;
 mod marks;
 mod opening;
@@ -11,8 +13,11 @@ mod slate;
 mod slip;
 mod tallies;
 mod visit;
+mod visits;
 
+pub use loading::load;
 pub use rack::Rack;
 pub use slate::Slate;
 pub use slip::{EndRefused, Slip};
-pub use visit::{begin, end};
+pub use visit::Visit;
+pub use visits::{begin, end};

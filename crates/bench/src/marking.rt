@@ -2,9 +2,10 @@
 ghost use Rattle.std.specs.Prelude.{◌≡◌, ◌-◌, ◌*◌, ◌≤◌, true, replicate, is_some, Some, None, MatchResult, slice_set};
 ghost use Rattle.bench.specs.Calls.{begin_refusal, end_refusal, equal_benches, load_refusal, make_refusal, source_refusal};
 ghost use Rattle.limits.specs.Faults.{told};
-ghost use Rattle.bench.specs.Model.{SameSizes, is_place, kept, outline_of};
+ghost use Rattle.bench.specs.Model.{SameSizes, flat_of, is_place, kept, outline_of};
 
 use crate::marks::Marks;
+use crate::visit::Visit;
 use limits::Fault;
 
 impl<T: Copy> Marks<T> {
@@ -87,13 +88,13 @@ impl<T: Copy> Marks<T> {
         self.filled[place - 1] = Some(content);
     }
 
-    // Opens a visit.
+    // Opens a visit to a flat.
     pub(crate) fn open(&mut self, flat: u16)
         ensures sizes { SameSizes self.old self.new }
-        ensures visit { self.new.visit ≡ Some flat }
+        ensures visit { self.new.visit ≡ Some (record { flat = flat }) }
         ensures filled { self.new.filled ≡ self.old.filled }
     {
-        self.visit = Some(flat);
+        self.visit = Some(Visit { flat });
     }
 
     // Closes the visit and empties every place.
@@ -109,11 +110,18 @@ impl<T: Copy> Marks<T> {
         self.visit = None;
     }
 
-    // Whether rack and slate have the same sides and the same visit, or none.
+    // The flat of the open visit, if one is open.
+    fn flat(&self) -> Option<u16>
+        ensures { result ≡ flat_of self.now.visit }
+    {
+        self.visit.map(|visit| visit.flat)
+    }
+
+    // Whether rack and slate have the same sides and visits to the same flat, or none.
     fn equals<U: Copy>(&self, slate: &Marks<U>) -> bool
         ensures { result ≡ equal_benches (outline_of self.now) (outline_of slate.now) }
     {
-        (self.w, self.h, self.visit) == (slate.w, slate.h, slate.visit)
+        (self.w, self.h, self.flat()) == (slate.w, slate.h, slate.flat())
     }
 
     // What begin refuses: 11, 32, 37.
@@ -136,7 +144,7 @@ impl<T: Copy> Marks<T> {
     pub(crate) fn refuse_end<U: Copy>(&self, slate: &Marks<U>, flat: u16) -> Result<(), Fault>
         ensures { result ≡ told (end_refusal (outline_of self.now) (outline_of slate.now) flat) }
     {
-        let Some(open) = self.visit else {
+        let Some(open) = self.flat() else {
             return Err(Fault::NoVisit);
         };
         if open != flat {

@@ -2,16 +2,18 @@
 ghost use Rattle.std.specs.Prelude.{◌≡◌, ◌≤◌, min, true, ◌||◌, length, drop, is_some};
 ghost use Rattle.bench.specs.Flags.{none};
 
-/// Sides, number of places, the flat of the open visit or none, and for each filled place what is kept of it beside its
+use crate::visit::Visit;
+
+/// Sides, number of places, the open visit or none, and for each filled place what is kept of it beside its
 /// cells: nothing of a sheet, its weight of a tally. With no visit open every place is empty. Past the last place nothing is kept.
 // Wrong sizes are sides 0 and no places, and no `Option`: a rack must open with any sizes, and each call would take it apart.
-// Twelve entries with the number of places beside them: fixed memory by a rule of the project.
+// Twelve entries with the number of places beside them: fixed memory, since firmware lends no other.
 #[derive(Drop)]
 pub struct Marks<T> {
     pub(crate) w: usize,
     pub(crate) h: usize,
     pub(crate) places: usize,
-    pub(crate) visit: Option<u16>,
+    pub(crate) visit: Option<Visit>,
     pub(crate) filled: [Option<T>; 12],
     ghost twelve: { length filled ≡ 12 },
     ghost some_column: { min 1 places ≤ w },

@@ -1,5 +1,5 @@
 // How racks and slates are opened.
-ghost use Rattle.std.specs.Prelude.{◌≡◌, ◌+◌, ◌*◌, ◌≤◌, ◌++◌, length, replicate, None};
+ghost use Rattle.std.specs.Prelude.{◌≡◌, ◌+◌, ◌*◌, ◌≤◌, length, replicate, None};
 ghost use Rattle.bench.specs.Calls.{as_opened};
 ghost use Rattle.bench.specs.Model.{rack_state, slate_state};
 ghost use Rattle.limits.specs.Faults.{unless};
@@ -19,7 +19,6 @@ fn opened_marks<T: Copy>(working: u8, w: usize, h: usize, places: usize, len: us
     ensures visit { result.visit ≡ None }
     ensures filled { result.filled ≡ replicate 12 None }
     ensures sized { 1 ≤ result.places → len ≡ (result.places + working) * (result.w * result.h) }
-    ensures room { result.places * (result.w * result.h) ≤ len }
 {
     let (w, h, places) = match check_sizes(working, w, h, places, len) {
         Ok(()) => (w, h, places),
@@ -41,15 +40,11 @@ impl<'a, L: Level> Rack<'a, L> {
     /// Wrong sizes, which `check_rack` refuses, open it with sides 0 and no places.
     pub fn open(memory: &'a mut [L], w: usize, h: usize, places: usize) -> Rack<'a, L>
         ensures state { rack_state L.height result ≡ as_opened 2 w h places (length memory.old) }
-        ensures memory { result.sheets.now ++ result.planes.now ≡ memory.old }
+        ensures memory { result.memory.now ≡ memory.old }
+        ensures lent { result.memory.ghost_name ≡ memory.entry.ghost_name }
     {
         let marks = opened_marks(2, w, h, places, memory.len());
-        let (sheets, planes) = memory.split_at_mut(marks.places * marks.cells());
-        Rack {
-            sheets,
-            planes,
-            marks,
-        }
+        Rack { memory, marks }
     }
 }
 
@@ -58,12 +53,10 @@ impl<'a> Slate<'a> {
     /// Wrong sizes, which `check_slate` refuses, open it with sides 0 and no places.
     pub fn open(memory: &'a mut [i32], w: usize, h: usize, places: usize) -> Slate<'a>
         ensures state { slate_state result ≡ as_opened 0 w h places (length memory.old) }
-        ensures memory { result.tallies.now ≡ memory.old }
+        ensures memory { result.memory.now ≡ memory.old }
+        ensures lent { result.memory.ghost_name ≡ memory.entry.ghost_name }
     {
         let marks = opened_marks(0, w, h, places, memory.len());
-        Slate {
-            tallies: memory,
-            marks,
-        }
+        Slate { memory, marks }
     }
 }

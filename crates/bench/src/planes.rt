@@ -2,7 +2,6 @@
 ghost use Rattle.std.specs.Prelude.{◌≡◌, ◌+◌, ◌*◌, ◌≤◌, map, length};
 ghost use Rattle.bench.specs.Calls.{made_from};
 ghost use Rattle.bench.specs.Model.{cells_from, overwritten};
-ghost use Rattle.morphology.specs.Sheets.{area};
 
 use levels::level::Level;
 use limits::Sides;
@@ -16,14 +15,6 @@ pub(crate) fn store<L: Copy>(memory: &mut [L], start: usize, cells: &[L])
     memory[start..start + cells.len()].copy_from_slice(cells);
 }
 
-// The sum of the heights of a sheet.
-pub(crate) fn area_of<L: Level>(sheet: &[L]) -> u64
-    requires { length sheet.now ≤ 1048576 }
-    ensures { result ≡ area (map L.height sheet.now) }
-{
-    sheet.iter().map(|level| u64::from(level.height())).sum()
-}
-
 // So many cells from a start on: all places lie in one lent slice, since the library has no heap.
 pub(crate) fn part<T>(memory: &[T], start: usize, cells: usize) -> &[T]
     requires { start + cells ≤ length memory.now }
@@ -32,37 +23,41 @@ pub(crate) fn part<T>(memory: &[T], start: usize, cells: usize) -> &[T]
     &memory[start..start + cells]
 }
 
-// Writes what a transformation makes of the sheets from two starts to the cells from a third, by way of a working plane.
+// Writes what a transformation makes of the sheets from two starts to the cells from a third, by way of the working planes, and
+// tells what the transformation tells.
 // No method: both parts of the memory are lent to it at once.
 pub(crate) fn make_place<T: Transform, L: Level>(
     transform: &T,
     sheets: &mut [L],
     planes: &mut [L],
     sides: Sides,
-    one_start: usize,
-    other_start: usize,
-    start: usize,
-)
-    requires one { one_start + sides.w * sides.h ≤ length sheets.old }
-    requires other { other_start + sides.w * sides.h ≤ length sheets.old }
-    requires target { start + sides.w * sides.h ≤ length sheets.old }
-    requires plane { sides.w * sides.h ≤ length planes.old }
-    ensures made { map L.height sheets.new ≡ overwritten start
-        (made_from (T.makes transform.now) sides.w sides.h one_start other_start (map L.height sheets.old))
+    one: usize,
+    other: usize,
+    to: usize,
+) -> T::Told
+    requires one { one + sides.w * sides.h ≤ length sheets.old }
+    requires other { other + sides.w * sides.h ≤ length sheets.old }
+    requires target { to + sides.w * sides.h ≤ length sheets.old }
+    requires planes { length planes.old ≡ 2 * (sides.w * sides.h) }
+    ensures made { map L.height sheets.new ≡ overwritten to
+        (made_from (T.makes transform.now) sides.w sides.h one other (map L.height sheets.old))
         (map L.height sheets.old) }
-    ensures length { length (made_from (T.makes transform.now) sides.w sides.h one_start other_start (map L.height sheets.old))
+    ensures told { result ≡ made_from (T.told_of transform.now) sides.w sides.h one other (map L.height sheets.old) }
+    ensures length { length (made_from (T.makes transform.now) sides.w sides.h one other (map L.height sheets.old))
         ≡ sides.w * sides.h }
 {
     let cells = sides.cells();
-    let plane = &mut planes[..cells];
-    transform
+    let (plane, spare) = planes.split_at_mut(cells);
+    let told = transform
         .transform(
-            part(sheets, one_start, cells),
-            part(sheets, other_start, cells),
+            part(sheets, one, cells),
+            part(sheets, other, cells),
             plane,
+            spare,
             sides.w,
             sides.h,
         )
         .unwrap();
-    store(sheets, start, plane);
+    store(sheets, to, plane);
+    told
 }

@@ -4,10 +4,11 @@ ghost use Rattle.std.specs.Prelude.{◌≡◌, ◌*◌, ◌≤◌, length};
 use crate::marks::Marks;
 
 /// A slate holds its tallies in memory that is lent to it: w × h numbers for each place. A tally has a signed number for each
-/// cell and a weight, which the slate keeps with the marks.
+/// cell and a weight, which the slate keeps with the marks. One that was opened with wrong sizes has no places, and touches
+/// no memory.
 #[derive(Drop)]
 pub struct Slate<'a> {
-    pub(crate) tallies: &'a mut [i32],
+    pub(crate) memory: &'a mut [i32],
     pub(crate) marks: Marks<u16>,
-    ghost tallies_sized: { 1 ≤ marks.places → length tallies.now ≡ marks.places * (marks.w * marks.h) },
+    ghost sized: { 1 ≤ marks.places → length memory.now ≡ marks.places * (marks.w * marks.h) },
 }

@@ -5,7 +5,7 @@ use limits::Fault;
 
 /// A slip bears the flat number of the visit that it was handed out for. No code can make or copy one, and it may be
 /// let go only when end has spent it, which leaves 0 on it, no flat's number.
-// Its 0 is no `Option`: by a rule of the project a slip is plain numbers, and what may be let go is told by them.
+// Its 0 is no `Option`: a slip is plain numbers, and they tell whether it may be let go.
 pub struct Slip {
     pub(crate) flat: u16,
 }

@@ -31,6 +31,6 @@ impl Slate<'_> {
             .marks
             .source(place, Fault::TallyPlace, Fault::EmptyTally)?;
         let cells = self.marks.cells();
-        Ok((part(self.tallies, (place - 1) * cells, cells), weight))
+        Ok((part(self.memory, (place - 1) * cells, cells), weight))
     }
 }

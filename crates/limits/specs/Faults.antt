@@ -34,15 +34,13 @@ refusal_number (Some fault) = fault_number fault
 abbrev pub first : {F : Type 0} → Bool → F → Option F → Option F
 first test fault rest = cond test (Some fault) rest
 
--- the answer of a call that tells nothing but its refusal
-abbrev pub told : Option Fault → Result (Unit {0}) Fault
-told None = Ok tt
-told (Some fault) = Err fault
-
--- the answer of a call that tells something
+-- the answer of a call that tells something where it is not refused, and of one that tells nothing then
 abbrev pub tells : {X : Type 0} → Option Fault → X → Result X Fault
 tells None x = Ok x
 tells (Some fault) x = Err fault
+
+abbrev pub told : Option Fault → Result (Unit {0}) Fault
+told refusal = tells refusal tt
 
 -- what a call leaves: the state as it was where it is refused, and else the new one
 abbrev pub unless : {S : Type 0} → Option Fault → S → S → S

@@ -4,8 +4,10 @@ use Rattle.std.proofs.lemmas.Nat.{div-add-mod', div_below, mod_below}
 use Rattle.std.proofs.lemmas.List.FromFn.{fill_by_all}
 use Rattle.std.proofs.lemmas.Bool.{lt-ltb, false≢true}
 use Rattle.elements.specs.Offsets.{flagged, offset_at}
+use Rattle.morphology.specs.declared.extremum.Extremum.{Extremum}
 use Rattle.morphology.specs.declared.operation.Operation.{Operation}
 use Rattle.morphology.specs.declared.operation.Operation.TheVariants.{Erosion, Dilation}
+use Rattle.morphology.specs.declared.extremum.Extremum.TheVariants.{Minimum, Maximum}
 use Rattle.morphology.specs.Sheets.{height_at, at_place}
 use Rattle.morphology.specs.Erosion.{erosion_at, dilation_at}
 use Rattle.morphology.specs.Erosion.{operated}
@@ -24,17 +26,17 @@ own_height op w h f p wide on = at_origin op ∙ rw (add-zero, add-zero, lt-ltb 
     at_origin Dilation = refl
 
 -- a fold over the offsets absorbs what is read at each of them
-absorbs_flag : (op : Operation) (v : ℤ × ℤ → ℕ) (a k i : ℕ) (bs : List Bool) → get_or bs i false ≡ true → extreme op (fold (extreme op) a (map v (flagged k bs))) (v (offset_at (k + i))) ≡ fold (extreme op) a (map v (flagged k bs))
-absorbs_flag op v a k zero [] held = absurd (false≢true held)
-absorbs_flag op v a k (suc i) [] held = absurd (false≢true held)
-absorbs_flag op v a k zero (true ∷ bs) held =
-    rw add-zero (absorbs_right op _ a (v (offset_at k)) (absorbs_start op (extreme op a (v (offset_at k))) (map v (flagged (k + 1) bs))))
-absorbs_flag op v a k zero (false ∷ bs) held = absurd (false≢true held)
-absorbs_flag op v a k (suc i) (b ∷ bs) held =
+absorbs_flag : (which : Extremum) (v : ℤ × ℤ → ℕ) (a k i : ℕ) (bs : List Bool) → get_or bs i false ≡ true → extreme which (fold (extreme which) a (map v (flagged k bs))) (v (offset_at (k + i))) ≡ fold (extreme which) a (map v (flagged k bs))
+absorbs_flag which v a k zero [] held = absurd (false≢true held)
+absorbs_flag which v a k (suc i) [] held = absurd (false≢true held)
+absorbs_flag which v a k zero (true ∷ bs) held =
+    rw add-zero (absorbs_right which _ a (v (offset_at k)) (absorbs_start which (extreme which a (v (offset_at k))) (map v (flagged (k + 1) bs))))
+absorbs_flag which v a k zero (false ∷ bs) held = absurd (false≢true held)
+absorbs_flag which v a k (suc i) (b ∷ bs) held =
     let place : (k + 1) + i ≡ k + suc i = omega arith in
-    elim b as (λ t. extreme op (fold (extreme op) a (map v (flagged k (t ∷ bs)))) (v (offset_at (k + suc i))) ≡ fold (extreme op) a (map v (flagged k (t ∷ bs)))) [
-      | true ↦ rw (← place) (absorbs_flag op v (extreme op a (v (offset_at k))) (k + 1) i bs held)
-      | false ↦ rw (← place) (absorbs_flag op v a (k + 1) i bs held)
+    elim b as (λ t. extreme which (fold (extreme which) a (map v (flagged k (t ∷ bs)))) (v (offset_at (k + suc i))) ≡ fold (extreme which) a (map v (flagged k (t ∷ bs)))) [
+      | true ↦ rw (← place) (absorbs_flag which v (extreme which a (v (offset_at k))) (k + 1) i bs held)
+      | false ↦ rw (← place) (absorbs_flag which v a (k + 1) i bs held)
     ]
 
 module _ (w h : ℕ) (f : List ℕ) (flags : List Bool) (wide : 1 ≤ w) (centre : get_or flags 24 false ≡ true) where
@@ -42,14 +44,14 @@ module _ (w h : ℕ) (f : List ℕ) (flags : List Bool) (wide : 1 ≤ w) (centre
   swept_erosion p on =
       let own = own_height Erosion w h f p wide on in
       let reach = reached Erosion w h f (p % w) (p / w) in
-      let low = absorbs_flag Erosion reach (suc (get_or f p 0)) 0 24 flags centre in
+      let low = absorbs_flag Minimum reach (suc (get_or f p 0)) 0 24 flags centre in
       fold_is_least (get_or f p 0) (map reach (flagged 0 flags)) (omega arith)
 
   swept_dilation : (p : ℕ) → p < w * h → swept Dilation w h f (flagged 0 flags) p ≡ at_place w (dilation_at w h (flagged 0 flags) f) p
   swept_dilation p on =
       let own = own_height Dilation w h f p wide on in
       let reach = reached Dilation w h f (p % w) (p / w) in
-      let high = absorbs_flag Dilation reach 0 0 24 flags centre in
+      let high = absorbs_flag Maximum reach 0 0 24 flags centre in
       fold_is_greatest (get_or f p 0) (map reach (flagged 0 flags)) (omega arith)
 
   -- a list of w × h heights, each of them swept, is what the operation makes of the sheet

@@ -1,14 +1,8 @@
 -- What is made or told of sheets cell by cell: meet, join, cut, and the first places of the least and the greatest height. Assumes nothing.
-use Rattle.std.specs.Prelude.{ℕ, suc, min, max, cond, List, [], ◌∷◌, map, Result, ◌==◌, nat_le}
-use Rattle.limits.specs.declared.fault.Fault.{Fault}
+use Rattle.std.specs.Prelude.{ℕ, suc, min, max, cond, List, [], ◌∷◌, map, ◌==◌, nat_le}
 use Rattle.morphology.specs.Erosion.{least, greatest}
-use Rattle.morphology.specs.Sheets.{lists_answer}
-use Rattle.morphology.specs.declared.operation.Operation.{Operation}
-use Rattle.morphology.specs.declared.operation.Operation.TheVariants.{Erosion, Dilation}
-
--- an operation on two lists to a third
-abbrev pub two_sheets_answer : ℕ → ℕ → ℕ → ℕ → ℕ → Result (Unit {0}) Fault
-two_sheets_answer w h one other to = lists_answer w h (one ∷ other ∷ to ∷ [])
+use Rattle.morphology.specs.declared.extremum.Extremum.{Extremum}
+use Rattle.morphology.specs.declared.extremum.Extremum.TheVariants.{Minimum, Maximum}
 
 -- two sheets of the same sides, or two tallies, taken together cell by cell
 abbrev pub cell_by_cell : {X Y : Type 0} → (X → X → Y) → List X → List X → List Y
@@ -24,10 +18,10 @@ met f g = cell_by_cell min f g
 abbrev pub joined : List ℕ → List ℕ → List ℕ
 joined f g = cell_by_cell max f g
 
--- meet for what erosion keeps of two heights, join for what dilation keeps
-abbrev pub combined : Operation → List ℕ → List ℕ → List ℕ
-combined Erosion = met
-combined Dilation = joined
+-- the meet for the minimum, the join for the maximum
+abbrev pub combined : Extremum → List ℕ → List ℕ → List ℕ
+combined Minimum = met
+combined Maximum = joined
 
 -- cutting at height a gives a mask: yes (1) exactly where the height is at least a, and else no (0)
 abbrev pub cut : ℕ → List ℕ → List ℕ
@@ -38,7 +32,7 @@ abbrev pub first_place : ℕ → List ℕ → ℕ
 first_place height [] = 0
 first_place height (x ∷ f) = cond (x == height) 0 (suc (first_place height f))
 
--- the least height of a sheet for erosion, the greatest for dilation
-abbrev pub extreme_of : Operation → List ℕ → ℕ
-extreme_of Erosion = least
-extreme_of Dilation = greatest
+-- the least or the greatest height of a sheet
+abbrev pub extreme_of : Extremum → List ℕ → ℕ
+extreme_of Minimum = least
+extreme_of Maximum = greatest

@@ -1,13 +1,20 @@
 -- What one pass of an offset over a sheet does, for erosion and dilation alike. Assumes nothing.
 use Rattle.std.specs.Prelude.{ℕ, ◌+◌, ◌-◌, ◌*◌, ◌/◌, ◌%◌, min, max, Bool, cond, ◌&&◌, List, map, ℤ, pos, ◌+ℤ◌, ◌-ℤ◌, fold, nat_le, nat_lt, slice_index}
 use Rattle.morphology.specs.Sheets.{height_at}
+use Rattle.morphology.specs.declared.extremum.Extremum.{Extremum}
+use Rattle.morphology.specs.declared.extremum.Extremum.TheVariants.{Minimum, Maximum}
 use Rattle.morphology.specs.declared.operation.Operation.{Operation}
 use Rattle.morphology.specs.declared.operation.Operation.TheVariants.{Erosion, Dilation}
 
--- which of two heights an operation keeps
-abbrev pub extreme : Operation → ℕ → ℕ → ℕ
-extreme Erosion x y = min x y
-extreme Dilation x y = max x y
+-- the lesser or the greater of two heights
+abbrev pub extreme : Extremum → ℕ → ℕ → ℕ
+extreme Minimum x y = min x y
+extreme Maximum x y = max x y
+
+-- erosion keeps the lesser of two heights, dilation the greater
+abbrev pub kept_by : Operation → Extremum
+kept_by Erosion = Minimum
+kept_by Dilation = Maximum
 
 -- An offset's side from −3 to 3 is told as a number from 0 to 6, three more than it.
 -- Dilation reads at the opposite offset.
@@ -30,7 +37,7 @@ reached Dilation w h f m n o = height_at w h f (pos m -ℤ o.0) (pos n -ℤ o.1)
 
 -- the extreme of a cell's own height and of all that the operation reads from it
 abbrev pub swept : Operation → ℕ → ℕ → List ℕ → List (ℤ × ℤ) → ℕ → ℕ
-swept op w h f offsets p = fold (extreme op) (slice_index f p) (map (reached op w h f (p % w) (p / w)) offsets)
+swept op w h f offsets p = fold (extreme (kept_by op)) (slice_index f p) (map (reached op w h f (p % w) (p / w)) offsets)
 
 -- the height that column m of a row of w cells reads in the row f, c − 3 columns on; outside counts as lowest
 abbrev pub in_row : ℕ → List ℕ → ℕ → ℕ → ℕ

@@ -1,9 +1,10 @@
 -- Sheets of heights, read by column and row. Assumes nothing.
 -- A sheet is a list of w × h heights, row by row; columns and rows count from 0.
-use Rattle.std.specs.Prelude.{ℕ, ◌+◌, ◌*◌, ◌/◌, ◌%◌, cond, ◌&&◌, List, [], ◌∷◌, map, ℤ, pos, negsuc, Ok, Err, fold, Result, ◌==◌, nat_lt, slice_index}
+use Rattle.std.specs.Prelude.{ℕ, ◌+◌, ◌*◌, ◌/◌, ◌%◌, cond, not, ◌&&◌, List, [], ◌∷◌, map, ℤ, pos, negsuc, fold, None, Option, ◌==◌, nat_lt, slice_index}
 use Rattle.std.specs.List.{list_all, range_with_len}
 use Rattle.limits.specs.declared.fault.Fault.{Fault}
 use Rattle.limits.specs.declared.fault.Fault.TheVariants.{Side, Length}
+use Rattle.limits.specs.Faults.{first}
 use Rattle.limits.specs.Sizes.{lawful_side}
 
 -- the height at column m and row n of a sheet of w × h heights; outside the sheet counts as lowest
@@ -20,14 +21,11 @@ at_place w cell p = cell (p % w) (p / w)
 abbrev pub by_cells : ℕ → ℕ → (ℕ → ℕ → ℕ) → List ℕ
 by_cells w h cell = map (at_place w cell) (range_with_len 0 (w * h))
 
--- An operation on lists of these lengths: both sides are lawful and every list has w × h levels, or it refuses.
-abbrev pub lists_answer : ℕ → ℕ → List ℕ → Result (Unit {0}) Fault
-lists_answer w h lens =
-    cond (lawful_side w && lawful_side h) (cond (list_all (λ len. len == w * h) lens) (Ok tt) (Err Length)) (Err Side)
-
--- an operation from a list to another
-abbrev pub sheets_answer : ℕ → ℕ → ℕ → ℕ → Result (Unit {0}) Fault
-sheets_answer w h from to = lists_answer w h (from ∷ to ∷ [])
+-- a call on lists of these lengths: the sides, then that every list has w × h levels
+abbrev pub lists_refusal : ℕ → ℕ → List ℕ → Option Fault
+lists_refusal w h lens =
+    first (not (lawful_side w && lawful_side h)) Side
+    (first (not (list_all (λ len. len == w * h) lens)) Length None)
 
 -- the area of a sheet is the sum of its heights
 abbrev pub area : List ℕ → ℕ

@@ -1,8 +1,9 @@
 // Erosion and dilation as calls of the library, each one text for every level kind.
-ghost use Rattle.std.specs.Prelude.{◌≡◌, map, length, MatchResult};
+ghost use Rattle.std.specs.Prelude.{◌≡◌, [], ◌∷◌, map, length, MatchResult};
 ghost use Rattle.elements.specs.Elements.{offsets};
 ghost use Rattle.morphology.specs.Erosion.{eroded, dilated, operated};
-ghost use Rattle.morphology.specs.Sheets.{sheets_answer};
+ghost use Rattle.limits.specs.Faults.{told};
+ghost use Rattle.morphology.specs.Sheets.{lists_refusal};
 
 use crate::operation::Operation;
 use crate::sheets::check_sheets;
@@ -22,7 +23,7 @@ pub fn operate<L: Level>(
     h: usize,
     element: &Element,
 ) -> Result<(), Fault>
-    ensures answers { result ≡ sheets_answer w h (length from.now) (length to.old) }
+    ensures answers { result ≡ told (lists_refusal w h (length from.now ∷ length to.old ∷ [])) }
     ensures memory { MatchResult result
         (λ _. map L.height to.new ≡ operated op w h (offsets element.now) (map L.height from.now))
         (λ _. to.new ≡ to.old) }
@@ -45,7 +46,7 @@ pub fn erode<L: Level>(
     h: usize,
     element: &Element,
 ) -> Result<(), Fault>
-    ensures answers { result ≡ sheets_answer w h (length from.now) (length to.old) }
+    ensures answers { result ≡ told (lists_refusal w h (length from.now ∷ length to.old ∷ [])) }
     ensures memory { MatchResult result
         (λ _. map L.height to.new ≡ eroded w h (offsets element.now) (map L.height from.now))
         (λ _. to.new ≡ to.old) }
@@ -63,7 +64,7 @@ pub fn dilate<L: Level>(
     h: usize,
     element: &Element,
 ) -> Result<(), Fault>
-    ensures answers { result ≡ sheets_answer w h (length from.now) (length to.old) }
+    ensures answers { result ≡ told (lists_refusal w h (length from.now ∷ length to.old ∷ [])) }
     ensures memory { MatchResult result
         (λ _. map L.height to.new ≡ dilated w h (offsets element.now) (map L.height from.now))
         (λ _. to.new ≡ to.old) }

@@ -2,6 +2,7 @@
 #![tactic(auto)]
 
 mod erosion;
+mod extremum;
 mod operation;
 mod passes;
 mod runs;
@@ -10,5 +11,6 @@ mod sweep;
 mod transform;
 
 pub use erosion::{dilate, erode, operate};
+pub use extremum::Extremum;
 pub use operation::Operation;
 pub use transform::{ByElement, CellByCell, Transform};

@@ -1,10 +1,11 @@
-// The two operations, and which of two levels each keeps.
+// The two operations by an element: which of the levels that it reads each keeps, and where it reads them.
 ghost use Rattle.std.specs.Prelude.{◌≡◌, ◌≤◌};
-ghost use Rattle.morphology.specs.Passes.{extreme, turned};
+ghost use Rattle.morphology.specs.Passes.{kept_by, turned};
 
-use levels::level::Level;
+use crate::extremum::Extremum;
 
-/// One of the two operations: erosion keeps the lower of two levels, dilation the higher.
+/// One of the two operations by an element: erosion, which keeps the lowest of the levels at its offsets, or dilation, which keeps
+/// the highest of those at the opposite ones.
 #[derive(Clone, Copy)]
 pub enum Operation {
     Erosion,
@@ -12,18 +13,16 @@ pub enum Operation {
 }
 
 impl Operation {
-    // A switch and no closure: callers hold the operation as a value, and the compiler makes an inner loop for each of the two.
-    /// The one of two levels that the operation keeps.
-    pub fn kept<L: Level>(self, x: L, y: L) -> L
-        ensures { L.height result ≡ extreme self (L.height x) (L.height y) }
+    // Which of two levels the operation keeps.
+    pub(crate) fn extremum(self) -> Extremum
+        ensures { result ≡ kept_by self }
     {
         match self {
-            Operation::Erosion => if x.at_most(y) { x } else { y },
-            Operation::Dilation => if x.at_most(y) { y } else { x },
+            Operation::Erosion => Extremum::Minimum,
+            Operation::Dilation => Extremum::Maximum,
         }
     }
 
-    // A switch, as in `kept`.
     // The offset's side, told as 0 to 6, at which the operation reads: dilation reads at the opposite one.
     pub(crate) fn turned(self, side: usize) -> usize
         requires { side ≤ 6 }

@@ -2,25 +2,25 @@
 ghost use Rattle.std.specs.Prelude.{◌≡◌, map, length, replicate};
 ghost use Rattle.morphology.specs.Cells.{combined};
 
-use crate::operation::Operation;
+use crate::extremum::Extremum;
 use levels::level::Level;
 
 // Each cell keeps the extreme of itself and of the other at its place.
-pub(crate) fn combine<L: Level>(op: Operation, others: &[L], cells: &mut [L])
+pub(crate) fn combine<L: Level>(which: Extremum, others: &[L], cells: &mut [L])
     requires { length others.now ≡ length cells.old }
-    ensures { map L.height cells.new ≡ combined op (map L.height cells.old) (map L.height others.now) }
+    ensures { map L.height cells.new ≡ combined which (map L.height cells.old) (map L.height others.now) }
 {
     // The others by place: tried with a zip, after which a proof knows no more of the cells than their length.
     for (k, cell) in cells.iter_mut().enumerate() {
-        *cell = op.kept(*cell, others[k]);
+        *cell = which.kept(*cell, others[k]);
     }
 }
 
 // Each cell keeps the extreme of itself and of what lies outside the sheet.
-pub(crate) fn combine_outside<L: Level>(op: Operation, cells: &mut [L])
-    ensures { map L.height cells.new ≡ combined op (map L.height cells.old) (replicate (length cells.old) 0) }
+pub(crate) fn combine_outside<L: Level>(which: Extremum, cells: &mut [L])
+    ensures { map L.height cells.new ≡ combined which (map L.height cells.old) (replicate (length cells.old) 0) }
 {
     for cell in cells.iter_mut() {
-        *cell = op.kept(*cell, L::lowest());
+        *cell = which.kept(*cell, L::lowest());
     }
 }

@@ -1,6 +1,6 @@
 // The sides and lengths that make sheets.
-ghost use Rattle.std.specs.Prelude.{◌≡◌, Ok, Err, MatchResult};
-ghost use Rattle.morphology.specs.Sheets.{lists_answer};
+ghost use Rattle.std.specs.Prelude.{◌≡◌, None, Some, MatchResult};
+ghost use Rattle.morphology.specs.Sheets.{lists_refusal};
 
 use limits::{Fault, Sides};
 
@@ -8,8 +8,8 @@ use limits::{Fault, Sides};
 // Refuses a side that is not 1 to 1,024 (1), and then a list that has not w × h levels (4).
 pub(crate) fn check_sheets(w: usize, h: usize, lens: &[usize]) -> Result<Sides, Fault>
     ensures { MatchResult result
-        (λ sides. (sides.w ≡ w) × (sides.h ≡ h) × (lists_answer w h lens.now ≡ Ok tt))
-        (λ fault. lists_answer w h lens.now ≡ Err fault) }
+        (λ sides. (sides.w ≡ w) × (sides.h ≡ h) × (lists_refusal w h lens.now ≡ None))
+        (λ fault. lists_refusal w h lens.now ≡ Some fault) }
 {
     let sides = Sides::new(w, h)?;
     let cells = sides.cells();

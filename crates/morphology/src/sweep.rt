@@ -22,11 +22,12 @@ pub(crate) fn sweep<L: Level>(
     ensures { (p : ℕ) → p < sides.w * sides.h → slice_index (map L.height to.new) p
         ≡ swept op sides.w sides.h (map L.height from.now) (offsets element.now) p }
 {
+    let which = op.extremum();
     // By number: an element tells its offsets by `holds` alone, and the number gives column and row.
     for index in 0..49 {
         if element.holds(index) {
             pass(
-                op,
+                which,
                 from,
                 to,
                 sides,

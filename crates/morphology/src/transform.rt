@@ -1,10 +1,13 @@
 // What makes a sheet of one or two others, whatever their level kind.
-ghost use Rattle.std.specs.Prelude.{◌≡◌, ℕ, List, map, length, MatchResult};
+ghost use Rattle.std.specs.Prelude.{◌≡◌, ℕ, List, [], ◌∷◌, map, length, MatchResult};
 ghost use Rattle.elements.specs.Elements.{offsets};
-ghost use Rattle.morphology.specs.Cells.{combined, two_sheets_answer};
+ghost use Rattle.limits.specs.Faults.{tells};
+ghost use Rattle.morphology.specs.Cells.{combined};
 ghost use Rattle.morphology.specs.Erosion.{operated};
+ghost use Rattle.morphology.specs.Sheets.{lists_refusal};
 
 use crate::erosion::operate;
+use crate::extremum::Extremum;
 use crate::operation::Operation;
 use crate::runs::combine;
 use crate::sheets::check_sheets;
@@ -12,26 +15,37 @@ use elements::Element;
 use levels::level::Level;
 use limits::Fault;
 
-/// A transformation makes a sheet of two sheets of the same sides. Its meaning is the sheet that it makes, told in heights
-/// and the same for every level kind. One that reads a single sheet does not look at the other.
+/// A transformation makes a sheet of two sheets of the same sides, and may tell something of its own. Its meaning is the sheet
+/// that it makes and what it tells, in heights and the same for every level kind. One that reads a single sheet does not
+/// look at the other.
 pub trait Transform {
-    // What it makes of two sheets of w × h heights.
+    /// What it tells beside the sheet that it makes; nothing is `()`.
+    type Told;
+
+    // What it makes of two sheets of w × h heights, and what it tells of them.
     ghost makes: { Self → ℕ → ℕ → List ℕ → List ℕ → List ℕ };
 
-    /// Writes what it makes of two sheets of w × h levels to the list `to`.
-    /// Refuses a side that is not 1 to 1,024 (1), then a list that has not w × h levels (4), and then leaves `to` as it was.
+    ghost told_of: { Self → ℕ → ℕ → List ℕ → List ℕ → Self.Told };
+
+    /// Writes what it makes of two sheets of w × h levels to the list `to`. The list `spare` is for steps on the way; what it
+    /// holds afterwards is free.
+    /// Refuses a side that is not 1 to 1,024 (1), then a list that has not w × h levels (4), and then leaves both lists as they
+    /// were.
     fn transform<L: Level>(
         &self,
         one: &[L],
         other: &[L],
         to: &mut [L],
+        spare: &mut [L],
         w: usize,
         h: usize,
-    ) -> Result<(), Fault>
-        ensures answers { result ≡ two_sheets_answer w h (length one.now) (length other.now) (length to.old) }
+    ) -> Result<Self::Told, Fault>
+        ensures answers { result ≡ tells
+            (lists_refusal w h (length one.now ∷ length other.now ∷ length to.old ∷ length spare.old ∷ []))
+            (told_of self.now w h (map L.height one.now) (map L.height other.now)) }
         ensures memory { MatchResult result
             (λ _. map L.height to.new ≡ makes self.now w h (map L.height one.now) (map L.height other.now))
-            (λ _. to.new ≡ to.old) };
+            (λ _. (to.new ≡ to.old) × (spare.new ≡ spare.old)) };
 }
 
 /// The erosion or dilation of a sheet by an element.
@@ -42,42 +56,51 @@ pub struct ByElement<'e> {
 }
 
 impl<'e> Transform for ByElement<'e> {
+    type Told = ();
+
     ghost makes = { λ t w h f g. operated t.op w h (offsets t.element.now) f };
+
+    ghost told_of = { λ t w h f g. tt };
 
     fn transform<L: Level>(
         &self,
         one: &[L],
         other: &[L],
         to: &mut [L],
+        spare: &mut [L],
         w: usize,
         h: usize,
     ) -> Result<(), Fault> {
-        check_sheets(w, h, &[one.len(), other.len(), to.len()])?;
+        check_sheets(w, h, &[one.len(), other.len(), to.len(), spare.len()])?;
         operate(self.op, one, to, w, h, self.element)
     }
 }
 
-/// The meet of two sheets, where erosion's choice of the lower level is taken at each cell, or their join, with dilation's
-/// choice of the higher.
+/// The meet of two sheets, which keeps the lower of two levels at each cell, or their join, which keeps the higher.
 #[derive(Clone, Copy)]
 pub struct CellByCell {
-    pub op: Operation,
+    pub which: Extremum,
 }
 
 impl Transform for CellByCell {
-    ghost makes = { λ t w h f g. combined t.op f g };
+    type Told = ();
+
+    ghost makes = { λ t w h f g. combined t.which f g };
+
+    ghost told_of = { λ t w h f g. tt };
 
     fn transform<L: Level>(
         &self,
         one: &[L],
         other: &[L],
         to: &mut [L],
+        spare: &mut [L],
         w: usize,
         h: usize,
     ) -> Result<(), Fault> {
-        check_sheets(w, h, &[one.len(), other.len(), to.len()])?;
+        check_sheets(w, h, &[one.len(), other.len(), to.len(), spare.len()])?;
         to.copy_from_slice(one);
-        combine(self.op, other, to);
+        combine(self.which, other, to);
         Ok(())
     }
 }

@@ -1,9 +1,10 @@
-use Rattle.std.proofs.Common.{◌≡◌, ◌*◌, map, length, sym, ap, ◌∙◌, arith}
+use Rattle.std.proofs.Common.{◌≡◌, ◌*◌, None, Ok, map, length, take, drop, sym, refl, ap, ◌∙◌, arith}
 use Rattle.std.proofs.lemmas.List.{length-map, length-take, length-drop}
 use Rattle.std.proofs.lemmas.Result.{MatchResult-at_ok}
+use Rattle.limits.specs.Faults.{tells}
 use Rattle.bench.specs.Calls.{made_from}
 use Rattle.bench.specs.Model.{cells_from, overwritten}
-use Rattle.bench.proofs.Memory.{heights_of_cells, map-overwritten, two_sheets_accepted}
+use Rattle.bench.proofs.Memory.{heights_of_cells, map-overwritten, lists_accepted}
 use Rattle.bench.proofs.planes.make_place.Goals as goal
 
 pub returns : goal.returns
@@ -13,19 +14,26 @@ returns g c =
     let cells = sides.w * sides.h in
     let sheets = c.args.sheets.now in
     let makes = g.T.Transform.makes c.args.transform.now in
-    let one_is : c.part.result.now ≡ cells_from c.args.one_start cells sheets = rw c.cells-cells.ensures at c.part.ensures in
-    let other_is : c.part-2.result.now ≡ cells_from c.args.other_start cells sheets = rw c.cells-cells.ensures at c.part-2.ensures in
+    let tells_of = g.T.Transform.told_of c.args.transform.now in
+    let count = c.cells-cells.ensures in
+    let planes = c.requires.planes in
+    let one_is : c.part.result.now ≡ cells_from c.args.one cells sheets = rw count at c.part.ensures in
+    let other_is : c.part-2.result.now ≡ cells_from c.args.other cells sheets = rw count at c.part-2.ensures in
     let one_long : length c.part.result.now ≡ cells = ap length one_is ∙ simp (length-take, length-drop) (omega arith) in
     let other_long : length c.part-2.result.now ≡ cells = ap length other_is ∙ simp (length-take, length-drop) (omega arith) in
-    let plane_long : length (cells_from 0 c.cells-cells.result c.args.planes.now) ≡ cells = simp length-take (omega (arith, c.cells-cells.ensures)) in
-    let accepted = two_sheets_accepted sides.w sides.h _ _ _ sides.some_column sides.wide sides.some_row sides.high one_long other_long plane_long in
-    let one = ap (map height) one_is ∙ heights_of_cells height c.args.one_start cells sheets in
-    let other = ap (map height) other_is ∙ heights_of_cells height c.args.other_start cells sheets in
-    let made : map height c.transform.new.to ≡ made_from makes sides.w sides.h c.args.one_start c.args.other_start (map height sheets) =
-    MatchResult-at_ok (λ _. map height c.transform.new.to ≡ makes sides.w sides.h (map height c.part.result.now) (map height c.part-2.result.now)) _ tt
-    (c.transform.ensures.answers ∙ accepted) c.transform.ensures.memory
+    let plane_long : length c.split_at_mut-plane.result.0.now ≡ cells = c.split_at_mut-plane.ensures.front_len ∙ count in
+    let spare_long : length c.split_at_mut-plane.result.1.now ≡ cells = omega (arith, c.split_at_mut-plane.ensures.back_len, count, planes) in
+    let accepted = lists_accepted sides.w sides.h _ _ _ _ sides.some_column sides.wide sides.some_row sides.high one_long other_long plane_long spare_long in
+    let one = ap (map height) one_is ∙ heights_of_cells height c.args.one cells sheets in
+    let other = ap (map height) other_is ∙ heights_of_cells height c.args.other cells sheets in
+    let answer = c.transform.ensures.answers ∙ ap (λ o. tells o (tells_of sides.w sides.h (map height c.part.result.now) (map height c.part-2.result.now))) accepted in
+    let made : map height c.transform.new.to ≡ made_from makes sides.w sides.h c.args.one c.args.other (map height sheets) =
+    MatchResult-at_ok (λ _. map height c.transform.new.to ≡ makes sides.w sides.h (map height c.part.result.now) (map height c.part-2.result.now)) _ _
+    answer c.transform.ensures.memory
     ∙ (λ i. makes sides.w sides.h (one i) (other i)) in
+    let same : Ok c.unwrap-told.result ≡ Ok (tells_of sides.w sides.h (map height c.part.result.now) (map height c.part-2.result.now)) = sym c.unwrap-told.ensures ∙ answer in
     record {
-      made = ap (map height) c.store.ensures ∙ map-overwritten height c.args.start _ sheets ∙ ap (λ new. overwritten c.args.start new (map height sheets)) made;
+      made = ap (map height) c.store.ensures ∙ map-overwritten height c.args.to _ sheets ∙ ap (λ new. overwritten c.args.to new (map height sheets)) made;
+      told = (let e : c.unwrap-told.result ≡ tells_of sides.w sides.h (map height c.part.result.now) (map height c.part-2.result.now) = cc in e) ∙ (λ i. tells_of sides.w sides.h (one i) (other i));
       length = sym (ap length made) ∙ length-map _ _ ∙ c.transform.auto.to ∙ plane_long;
     }

@@ -8,7 +8,7 @@ use Rattle.morphology.proofs.passes.combine_row.Goals as goal
 pub returns : goal.returns
 returns g c =
     let height = g.L.Level.height in
-    let op = c.args.op in
+    let which = c.args.which in
     let cells = c.args.cells.now in
     let w = length cells in
     let left = c.margins-left.result.0 in
@@ -28,15 +28,15 @@ returns g c =
     let two = rewritten left n one second in
     let two_long : length two ≡ w = length-rewritten left n one second (rw one_long (omega (arith, whole))) second_long ∙ one_long in
     let p =
-    passed_outside height op v (map height cells) 0 left left cells first (zero-add _) start first_long (passed_none op v _)
+    passed_outside height which v (map height cells) 0 left left cells first (zero-add _) start first_long (passed_none which v _)
     (λ m low high. start_outside w c.args.c f m (omega arith) (rw (← c.margins-left.ensures.start) high)) c.combine_outside.ensures in
     let q =
-    passed_combined height op v (map height cells) left n (w - right) one second whole (rw one_long (omega arith)) second_long p
+    passed_combined height which v (map height cells) left n (w - right) one second whole (rw one_long (omega arith)) second_long p
     (map height (take (w - left - right) (drop right c.args.others.now)))
     (length-map _ _ ∙ length-take-le (w - left - right) (drop right c.args.others.now) (rw (length-drop, c.requires) (omega arith)) ∙ same) (λ m h. rw heights_of_part (row_read w c.args.c f left right (w - left - right) m c.margins-left.ensures.start c.margins-left.ensures.end refl (rw same h))) c.combine.ensures in
     let third = c.combine_outside-2.new.cells in
     let rest = length two - (w - right) in
     let end : w - right + rest ≡ w = rw two_long (omega arith) in
     let third_long : length third ≡ rest = c.combine_outside-2.auto.cells ∙ length-take-le rest (drop (w - right) two) (rw length-drop (omega arith)) in
-    (passed_outside height op v (map height cells) (w - right) rest w two third end (omega (arith, two_long)) third_long q
+    (passed_outside height which v (map height cells) (w - right) rest w two third end (omega (arith, two_long)) third_long q
     (λ m low high. end_outside w c.args.c f m high (rw (← c.margins-left.ensures.end) low)) c.combine_outside-2.ensures).before

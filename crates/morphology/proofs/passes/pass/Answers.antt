@@ -13,7 +13,7 @@ loop-row-init g c =
     let h = c.args.sides.h in
     let above = c.margins-above.result.0 in
     let within : above * w ≤ length c.args.to.now = omega (arith, rows_within w h above (omega arith)) in
-    passed_outside g.L.Level.height c.args.op (at_place w (neighbour w h (map g.L.Level.height c.args.from.now) c.args.c c.args.r)) _ 0 (above * w) (above * w) c.args.to.now c.combine_outside.new.cells
+    passed_outside g.L.Level.height c.args.which (at_place w (neighbour w h (map g.L.Level.height c.args.from.now) c.args.c c.args.r)) _ 0 (above * w) (above * w) c.args.to.now c.combine_outside.new.cells
     (zero-add _) within (c.combine_outside.auto.cells ∙ length-take-le (above * w) c.args.to.now within) (passed_none _ _ _)
     (λ p low high. above_outside w h _ c.args.c c.args.r p c.args.sides.some_column (omega arith) (rw (← c.margins-above.ensures.start) high)) c.combine_outside.ensures
 
@@ -38,9 +38,9 @@ loop-row-preserved g c =
     let within : (row + 1) * w ≤ length c.loop-row.to = omega (arith, rows_within w h (row + 1) (omega arith)) in
     let long : length (take n (drop (row * w) c.loop-row.to)) ≡ w =
     length-take-le n (drop (row * w) c.loop-row.to) (rw (length-drop, one) (omega (arith, next_row row w, within))) ∙ one in
-    passed_more height c.args.op (at_place w (neighbour w h f c.args.c c.args.r)) _ (row * w) n ((row + 1) * w) c.loop-row.to c.combine_row.new.cells
+    passed_more height c.args.which (at_place w (neighbour w h f c.args.c c.args.r)) _ (row * w) n ((row + 1) * w) c.loop-row.to c.combine_row.new.cells
     (rw one (next_row row w)) within (c.combine_row.auto.cells ∙ long ∙ sym one) c.loop-row.invariant
-    (λ m h. c.combine_row.ensures m (rw long (rw (← one) h)) ∙ ap (extreme c.args.op _) (rw (long, heights_of_part height (source + w - source) source c.args.from.now) (in_row-neighbour w c.args.sides.h f c.args.c c.args.r row _ m same (rw (← one) h) on)))
+    (λ m h. c.combine_row.ensures m (rw long (rw (← one) h)) ∙ ap (extreme c.args.which _) (rw (long, heights_of_part height (source + w - source) source c.args.from.now) (in_row-neighbour w c.args.sides.h f c.args.c c.args.r row _ m same (rw (← one) h) on)))
 
 pub offset_bounds-to-end : goal.offset_bounds-to-end
 offset_bounds-to-end g c =
@@ -60,7 +60,7 @@ returns g c p on =
     let long : length to ≡ w * h = omega arith in
     let within : end * w ≤ length to = omega (arith, rows_within w h end (omega arith)) in
     let all : c.loop-row.row ≡ end = omega (arith, c.loop-row.auto.row-end) in
-    (passed_outside height c.args.op (at_place w (neighbour w h (map height c.args.from.now) c.args.c c.args.r)) (map height c.args.to.now) (end * w) n (w * h) to last
+    (passed_outside height c.args.which (at_place w (neighbour w h (map height c.args.from.now) c.args.c c.args.r)) (map height c.args.to.now) (end * w) n (w * h) to last
     (omega (arith, long)) (omega (arith, long)) (c.combine_outside-2.auto.cells ∙ length-take-le n (drop (end * w) to) (rw length-drop (omega arith))) (rw (← all) c.loop-row.invariant)
     (λ q low high. below_outside w h _ c.args.c c.args.r q c.args.sides.some_column high (rw (← c.margins-above.ensures.end) low))
     c.combine_outside-2.ensures).before p on

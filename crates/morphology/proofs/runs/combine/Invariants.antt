@@ -6,4 +6,4 @@ use Rattle.morphology.proofs.runs.combine.Given as goal
 abbrev pub invariant-loop-k : goal.invariant-loop-k
 invariant-loop-k g l =
     let heights = map g.L.Level.height in
-    heights l.cells ≡ combined_below (extreme l.op) l.k (heights l.initial.cells) (heights l.others)
+    heights l.cells ≡ combined_below (extreme l.which) l.k (heights l.initial.cells) (heights l.others)

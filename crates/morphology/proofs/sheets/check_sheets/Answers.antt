@@ -1,14 +1,15 @@
-use Rattle.std.proofs.Common.{◌≡◌, ◌≤◌, ◌*◌, ℕ, Bool, cond, List, Ok, Err, refl, eqb, rules, tests}
+use Rattle.std.proofs.Common.{◌≡◌, ◌≤◌, ◌*◌, ℕ, Bool, not, List, None, refl, eqb, rules, tests}
 use Rattle.std.proofs.lemmas.Bool.{le-leb}
 use Rattle.std.proofs.lemmas.Iterator.{YieldsList-from_slice}
 use Rattle.std.proofs.lemmas.Iterator.Search.{all_from_yields_List}
 use Rattle.std.specs.List.{list_all}
 use Rattle.limits.specs.declared.fault.Fault.TheVariants.{Length}
-use Rattle.morphology.specs.Sheets.{lists_answer}
+use Rattle.limits.specs.Faults.{first}
+use Rattle.morphology.specs.Sheets.{lists_refusal}
 use Rattle.morphology.proofs.sheets.check_sheets.Goals as goal
 
 -- with lawful sides the lengths alone decide
-lengths_decide : (w h : ℕ) (lens : List ℕ) (all : Bool) → 1 ≤ w → w ≤ 1024 → 1 ≤ h → h ≤ 1024 → all ≡ list_all (λ len. eqb len (w * h)) lens → lists_answer w h lens ≡ cond all (Ok tt) (Err Length)
+lengths_decide : (w h : ℕ) (lens : List ℕ) (all : Bool) → 1 ≤ w → w ≤ 1024 → 1 ≤ h → h ≤ 1024 → all ≡ list_all (λ len. eqb len (w * h)) lens → lists_refusal w h lens ≡ first (not all) Length None
 lengths_decide w h lens all a b c d e = rw (le-leb 1 w a, le-leb w 1024 b, le-leb 1 h c, le-leb h 1024 d, e) refl
 
 pub returns : goal.returns

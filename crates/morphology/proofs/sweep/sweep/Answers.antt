@@ -13,10 +13,11 @@ loop-index-preserved g c p h =
     let index = c.loop-index.index in
     elim c.if-holds.branch [
       | then-holds w ↦
-          let turns = ap (λ a. extreme c.args.op _ (at_place sides.w (neighbour sides.w sides.h f a w.turned-then-holds.result) p)) w.turned.ensures
-          ∙ ap (λ b. extreme c.args.op _ (at_place sides.w (neighbour sides.w sides.h f _ b) p)) w.turned-then-holds.ensures in
+          let x = get_or (map g.L.Level.height c.loop-index.to) p 0 in
           ap (λ xs. get_or (map g.L.Level.height xs) p 0) w.to-is
-          ∙ sweep_set c.args.op sides.w sides.h f p flags index _ _ c.loop-index-test.true (sym c.holds.ensures ∙ w.if-holds.true) (c.loop-index.invariant p h) (w.pass.ensures p h ∙ turns)
+          ∙ sweep_set c.args.op sides.w sides.h f p flags index _ _ c.loop-index-test.true (sym c.holds.ensures ∙ w.if-holds.true) (c.loop-index.invariant p h)
+          (w.pass.ensures p h
+          ∙ (λ i. extreme (c.extremum-which.ensures i) x (at_place sides.w (neighbour sides.w sides.h f (w.turned.ensures i) (w.turned-then-holds.ensures i)) p)))
       | else-holds w ↦
           ap (λ xs. get_or (map g.L.Level.height xs) p 0) w.to-is
           ∙ sweep_clear c.args.op sides.w sides.h f p flags index _ (sym c.holds.ensures ∙ w.if-holds.false) (c.loop-index.invariant p h)

@@ -5,19 +5,19 @@ use Rattle.limits.specs.declared.fault.Fault.{Fault}
 use Rattle.limits.specs.Faults.{unless}
 use Rattle.bench.specs.declared.rack.Rack.{Rack}
 use Rattle.bench.specs.Model.{Outline, State, rack_outline, rack_state, shared}
-use Rattle.bench.specs.Calls.{Making, MakesSheet, end_refusal, stored}
+use Rattle.bench.specs.Calls.{Making, MakesSheet, OfTwo, end_refusal, stored}
 
 -- a call that fills a place, or is refused, keeps the visit and the sides
 pub stored_shared : (o : Option Fault) (s after : State (List ℕ)) (k : ℕ) (cells : List ℕ) → after ≡ unless o (stored s k cells) s → shared after.outline ≡ shared s.outline
 stored_shared None s after k cells is = ap (λ t. shared t.outline) is
 stored_shared (Some f) s after k cells is = ap (λ t. shared t.outline) is
 
-pub made_shared : {L : Type 0} (height : L → ℕ) (made : Making) (was is : Rack L) (one other to : ℕ) (answer : Result (Unit {0}) Fault)
-    → MakesSheet height made was is one other to answer → shared (rack_outline is) ≡ shared (rack_outline was)
-made_shared height made was is one other to answer h = stored_shared _ (rack_state height was) (rack_state height is) to _ h.steps
+pub made_shared : {L T : Type 0} (height : L → ℕ) (made : Making) (told : OfTwo T) (was is : Rack L) (one other to : ℕ) (answer : Result T Fault)
+    → MakesSheet height made told was is one other to answer → shared (rack_outline is) ≡ shared (rack_outline was)
+made_shared height made told was is one other to answer h = stored_shared _ (rack_state height was) (rack_state height is) to _ h.steps
 
 -- end is not refused where the visit on both is to the slip's flat
-pub end_accepted : (flat : ℕ) (r s : Outline) → r.visit ≡ Some flat → shared r ≡ shared s → end_refusal r s flat ≡ None
+pub end_accepted : (flat : ℕ) (r s : Outline) → r.visit ≡ Some (record { flat = flat }) → shared r ≡ shared s → end_refusal r s flat ≡ None
 end_accepted flat r s on_rack same =
-    let other : s.visit ≡ Some flat = sym (ap (λ x. x.0) same) ∙ on_rack in
+    let other : s.visit ≡ Some (record { flat = flat }) = sym (ap (λ x. x.0) same) ∙ on_rack in
     rw (on_rack, other, eq-eqb flat flat refl, eq-eqb r.w s.w (ap (λ x. x.1) same), eq-eqb r.h s.h (ap (λ x. x.2) same)) refl

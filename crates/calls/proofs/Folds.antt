@@ -4,16 +4,16 @@ use Rattle.std.specs.List.{position_or_len}
 use Rattle.std.specs.Option.{unwrap_or}
 use Rattle.std.proofs.lemmas.List.Recursion.{is_position_or_len}
 use Rattle.std.proofs.lemmas.Bool.{cases_lt, lt-ltb, le-ltb}
-use Rattle.morphology.specs.declared.operation.Operation.{Operation}
-use Rattle.morphology.specs.declared.operation.Operation.TheVariants.{Erosion, Dilation}
+use Rattle.morphology.specs.declared.extremum.Extremum.{Extremum}
+use Rattle.morphology.specs.declared.extremum.Extremum.TheVariants.{Minimum, Maximum}
 use Rattle.morphology.specs.Cells.{extreme_of, first_place}
 use Rattle.morphology.specs.Passes.{extreme}
 
 -- a fold of a sheet from its own first height is its least or its greatest height
-pub fold_is_extreme : (op : Operation) (f : List ℕ) → 1 ≤ length f → fold (extreme op) (get_or f 0 0) f ≡ extreme_of op f
-fold_is_extreme op [] some = absurd (omega arith)
-fold_is_extreme Erosion (x ∷ f) some = let same : min x x ≡ x = omega arith in ap (λ y. fold min y f) same
-fold_is_extreme Dilation (x ∷ f) some = let same : max x x ≡ max 0 x = omega arith in ap (λ y. fold max y f) same
+pub fold_is_extreme : (which : Extremum) (f : List ℕ) → 1 ≤ length f → fold (extreme which) (get_or f 0 0) f ≡ extreme_of which f
+fold_is_extreme which [] some = absurd (omega arith)
+fold_is_extreme Minimum (x ∷ f) some = let same : min x x ≡ x = omega arith in ap (λ y. fold min y f) same
+fold_is_extreme Maximum (x ∷ f) some = let same : max x x ≡ max 0 x = omega arith in ap (λ y. fold max y f) same
 
 -- the first place of a height is where the first level of that height stands, or behind the last level
 pub first_place-position : {X : Type 0} (height : X → ℕ) (h : ℕ) (xs : List X) → first_place h (map height xs) ≡ position_or_len (λ x. eqb (height x) h) xs

@@ -3,11 +3,20 @@ ghost use Rattle.std.specs.Prelude.{◌≡◌, ◌≤◌, map, length, if◌then
 ghost use Rattle.calls.specs.Told.{extreme_spot, spot_numbers};
 ghost use Rattle.levels.specs.Mask.{mask_height};
 ghost use Rattle.morphology.specs.Cells.{cut, extreme_of, first_place};
+ghost use Rattle.morphology.specs.Sheets.{area};
 
 use crate::spot::Spot;
 use levels::Mask;
 use levels::level::Level;
-use morphology::Operation;
+use morphology::Extremum;
+
+// The sum of the heights of a sheet.
+pub(crate) fn area_of<L: Level>(sheet: &[L]) -> u64
+    requires { length sheet.now ≤ 1048576 }
+    ensures { result ≡ area (map L.height sheet.now) }
+{
+    sheet.iter().map(|level| u64::from(level.height())).sum()
+}
 
 // The mask level of a level at a height: yes exactly where its height is at least that.
 fn mask_of<L: Level>(level: L, height: u32) -> Mask
@@ -31,14 +40,14 @@ pub(crate) fn write_mask<L: Level>(sheet: &[L], height: u32, mask: &mut [Mask])
     }
 }
 
-// The level of a sheet's least height for erosion, of its greatest for dilation.
-fn extreme<L: Level>(op: Operation, sheet: &[L]) -> L
+// The level of a sheet's least or greatest height.
+fn extreme<L: Level>(which: Extremum, sheet: &[L]) -> L
     requires { 1 ≤ length sheet.now }
-    ensures { L.height result ≡ extreme_of op (map L.height sheet.now) }
+    ensures { L.height result ≡ extreme_of which (map L.height sheet.now) }
 {
     let mut extreme = sheet[0];
     for level in sheet {
-        extreme = op.kept(extreme, *level);
+        extreme = which.kept(extreme, *level);
     }
     extreme
 }
@@ -54,12 +63,12 @@ fn place_of<L: Level>(sheet: &[L], level: L) -> usize
         .unwrap_or(sheet.len())
 }
 
-// The first spot of a sheet's least level for erosion, of its greatest for dilation.
-pub(crate) fn spot_of<L: Level>(op: Operation, sheet: &[L], w: usize) -> Spot<L>
+// The first spot of a sheet's least or greatest level.
+pub(crate) fn spot_of<L: Level>(which: Extremum, sheet: &[L], w: usize) -> Spot<L>
     requires { (1 ≤ length sheet.now) × (1 ≤ w) }
-    ensures { spot_numbers L.height result ≡ extreme_spot op w (map L.height sheet.now) }
+    ensures { spot_numbers L.height result ≡ extreme_spot which w (map L.height sheet.now) }
 {
-    let level = extreme(op, sheet);
+    let level = extreme(which, sheet);
     let place = place_of(sheet, level);
     Spot {
         column: place % w,

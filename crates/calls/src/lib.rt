@@ -6,6 +6,6 @@ mod made;
 mod spot;
 mod told;
 
-pub use made::{join, meet};
+pub use made::{dilate, erode, join, meet};
 pub use spot::Spot;
-pub use told::{cut, show_sheet, show_tally, span};
+pub use told::{area, cut, show_sheet, show_tally, span};

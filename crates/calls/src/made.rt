@@ -1,45 +1,84 @@
 // The calls that make a sheet of others.
-ghost use Rattle.bench.specs.Calls.{MakesSheet};
+ghost use Rattle.bench.specs.Calls.{MakesSheet, nothing_told};
+ghost use Rattle.calls.specs.Made.{by_element};
+ghost use Rattle.elements.specs.Elements.{offsets};
 ghost use Rattle.morphology.specs.Cells.{met, joined};
+ghost use Rattle.morphology.specs.declared.operation.Operation.TheVariants.{Erosion, Dilation};
 
 use bench::Rack;
+use elements::Element;
 use levels::level::Level;
 use limits::Fault;
-use morphology::{CellByCell, Operation};
+use morphology::{ByElement, CellByCell, Extremum, Operation};
 
-// The names of the two calls are the users', so each stands over `Rack::make`.
+// The names of the four calls are the users', so each stands over `Rack::make`. What each refuses, and in which order, is the same:
+// a place that the rack has not (5), no visit open (31), and a source place that is empty (34); a refusal changes nothing. Of the places
+// exactly the target's cells change, and the working planes are left as they may be.
+
+/// Fills the place `to` with the erosion by an element of the sheet in the place `from`, which may be the same.
+/// Refuses 5, 31 and 34.
+pub fn erode<L: Level>(
+    rack: &mut Rack<'_, L>,
+    element: &Element,
+    from: usize,
+    to: usize,
+) -> Result<(), Fault>
+    ensures { MakesSheet L.height (by_element Erosion (offsets element.now)) nothing_told rack.old rack.new from from to result }
+{
+    let erosion = ByElement {
+        op: Operation::Erosion,
+        element,
+    };
+    rack.make(&erosion, from, from, to)
+}
+
+/// Fills the place `to` with the dilation by an element of the sheet in the place `from`, which may be the same.
+/// Refuses 5, 31 and 34.
+pub fn dilate<L: Level>(
+    rack: &mut Rack<'_, L>,
+    element: &Element,
+    from: usize,
+    to: usize,
+) -> Result<(), Fault>
+    ensures { MakesSheet L.height (by_element Dilation (offsets element.now)) nothing_told rack.old rack.new from from to result }
+{
+    let dilation = ByElement {
+        op: Operation::Dilation,
+        element,
+    };
+    rack.make(&dilation, from, from, to)
+}
+
 /// Fills the place `to` with the meet of the sheets in the places `one` and `other`: the lower of the two, cell by cell. Any
 /// of the three places may be the same.
-/// Refuses a place that the rack has not (5), no visit open (31), and a source place that is empty (34); a refusal changes
-/// nothing. Of the memory exactly the target's cells change, and the working planes are left as they may be.
+/// Refuses 5, 31 and 34.
 pub fn meet<L: Level>(
     rack: &mut Rack<'_, L>,
     one: usize,
     other: usize,
     to: usize,
 ) -> Result<(), Fault>
-    ensures { MakesSheet L.height (λ w h. met) rack.old rack.new one other to result }
+    ensures { MakesSheet L.height (λ w h. met) nothing_told rack.old rack.new one other to result }
 {
     let meet = CellByCell {
-        op: Operation::Erosion,
+        which: Extremum::Minimum,
     };
     rack.make(&meet, one, other, to)
 }
 
 /// Fills the place `to` with the join of the sheets in the places `one` and `other`: the higher of the two, cell by cell. Any
 /// of the three places may be the same.
-/// Refuses a place that the rack has not (5), no visit open (31), and a source place that is empty (34); a refusal changes
-/// nothing. Of the memory exactly the target's cells change, and the working planes are left as they may be.
+/// Refuses 5, 31 and 34.
 pub fn join<L: Level>(
     rack: &mut Rack<'_, L>,
     one: usize,
     other: usize,
     to: usize,
 ) -> Result<(), Fault>
-    ensures { MakesSheet L.height (λ w h. joined) rack.old rack.new one other to result }
+    ensures { MakesSheet L.height (λ w h. joined) nothing_told rack.old rack.new one other to result }
 {
     let join = CellByCell {
-        op: Operation::Dilation,
+        which: Extremum::Maximum,
     };
     rack.make(&join, one, other, to)
 }

@@ -1,18 +1,26 @@
 // The calls that tell or copy out what is on a bench, which stays as it is.
 ghost use Rattle.std.specs.Prelude.{◌≡◌, map, length, None, Some, MatchResult};
 ghost use Rattle.bench.specs.Model.{rack_outline, rack_state, sheet_of, slate_outline, slate_state};
-ghost use Rattle.calls.specs.Told.{cut_refusal, show_sheet_refusal, show_tally_refusal, span_answer, spots_told, SpotsAreFirstExtremes};
+ghost use Rattle.calls.specs.Told.{area_answer, cut_refusal, show_sheet_refusal, show_tally_refusal, span_answer, spots_told, SpotsAreFirstExtremes};
 ghost use Rattle.levels.specs.Mask.{mask_height};
 ghost use Rattle.limits.specs.Faults.{told};
 ghost use Rattle.morphology.specs.Cells.{cut};
 
-use crate::cells::{spot_of, write_mask};
+use crate::cells::{area_of, spot_of, write_mask};
 use crate::spot::Spot;
 use bench::{Rack, Slate};
 use levels::Mask;
 use levels::level::Level;
 use limits::Fault;
-use morphology::Operation;
+use morphology::Extremum;
+
+/// Tells the area of the sheet in a place: the sum of its heights.
+/// Refuses a place that the rack has not (5), no visit open (31), and a place that is empty (34).
+pub fn area<L: Level>(rack: &Rack<'_, L>, place: usize) -> Result<u64, Fault>
+    ensures { result ≡ area_answer (rack_state L.height rack.now) place }
+{
+    Ok(area_of(rack.sheet(place)?))
+}
 
 /// Tells the span of the sheet in a place: the spots of its least and of its greatest level, each the first in reading order.
 /// Refuses a place that the rack has not (5), no visit open (31), and a place that is empty (34).
@@ -23,8 +31,8 @@ pub fn span<L: Level>(rack: &Rack<'_, L>, place: usize) -> Result<(Spot<L>, Spot
 {
     let sheet = rack.sheet(place)?;
     let (w, _, _) = rack.sizes();
-    let least = spot_of(Operation::Erosion, sheet, w);
-    let greatest = spot_of(Operation::Dilation, sheet, w);
+    let least = spot_of(Extremum::Minimum, sheet, w);
+    let greatest = spot_of(Extremum::Maximum, sheet, w);
     Ok((least, greatest))
 }
 
@@ -67,14 +75,14 @@ pub fn show_tally(slate: &Slate<'_>, place: usize, list: &mut [i32]) -> Result<u
     Ok(weight)
 }
 
-/// Writes the mask of the sheet in a place at a height, 1 to the kind's top, to a list of w × h mask levels: yes exactly
+/// Writes the mask at a height, 1 to the kind's top, of the sheet in a place to a list of w × h mask levels: yes exactly
 /// where the sheet's height is at least that.
 /// Refuses a list of another length (4), a place that the rack has not (5), a height outside its limits (9), no visit
 /// open (31), and a place that is empty (34), and then leaves the list as it was.
 pub fn cut<L: Level>(
     rack: &Rack<'_, L>,
-    place: usize,
     height: u32,
+    place: usize,
     mask: &mut [Mask],
 ) -> Result<(), Fault>
     ensures answers { result ≡ told (cut_refusal L.top (rack_outline rack.now) place height (length mask.old)) }

@@ -17,13 +17,13 @@ loop-level-preserved g c =
     let within : i < length heights = rw length-map c.loop-level-test.true in
     let read = sym (height_read height c.args.sheet.now i c.level-item.result c.loop-level-test.true c.level-item.is) in
     c.kept-extreme.ensures
-    ∙ (λ k. extreme c.args.op (c.loop-level.invariant k) (read k))
-    ∙ sym (fold_more (extreme c.args.op) (get_or heights 0 0) heights i 0 within)
+    ∙ (λ k. extreme c.args.which (c.loop-level.invariant k) (read k))
+    ∙ sym (fold_more (extreme c.args.which) (get_or heights 0 0) heights i 0 within)
 
 pub returns : goal.returns
 returns g c =
     let heights = map g.L.Level.height c.args.sheet.now in
     let all : length heights ≤ c.loop-level.level-index = rw length-map c.loop-level-test.false in
     c.loop-level.invariant
-    ∙ ap (fold (extreme c.args.op) (get_or heights 0 0)) (take_all _ heights all)
-    ∙ fold_is_extreme c.args.op heights (rw length-map c.requires)
+    ∙ ap (fold (extreme c.args.which) (get_or heights 0 0)) (take_all _ heights all)
+    ∙ fold_is_extreme c.args.which heights (rw length-map c.requires)

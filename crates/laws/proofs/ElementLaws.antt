@@ -12,8 +12,8 @@ use Rattle.elements.proofs.Elements.{offsets_law}
 use Rattle.morphology.specs.Cells.{extreme_of}
 use Rattle.morphology.specs.Erosion.{eroded, dilated, erosion_at}
 use Rattle.morphology.specs.Sheets.{height_at, by_cells, at_place}
-use Rattle.morphology.specs.declared.operation.Operation.{Operation}
-use Rattle.morphology.specs.declared.operation.Operation.TheVariants.{Erosion, Dilation}
+use Rattle.morphology.specs.declared.extremum.Extremum.{Extremum}
+use Rattle.morphology.specs.declared.extremum.Extremum.TheVariants.{Minimum, Maximum}
 use Rattle.operators.specs.Closings.{eroded_inside, on_sheet}
 use Rattle.laws.specs.Closings.{DilationAndErosionInsideClose, ClosingPairLaws}
 use Rattle.laws.specs.Maps.{FlatOperator}
@@ -23,18 +23,18 @@ use Rattle.laws.proofs.Extremes.{filter_member, member_filter, least_at_most, at
 use Rattle.laws.proofs.Reading.{Stands, on_at, height_on, height_off, place_cases, height_order, height_cut, cell_at, below_on_sheet}
 
 -- At each cell, the extreme of the heights at a column and a row for each of some offsets.
-module _ (op : Operation) (w h : ℕ) (column row : ℕ → ℤ × ℤ → ℤ) (some : ℕ → ℕ → List (ℤ × ℤ)) where
+module _ (which : Extremum) (w h : ℕ) (column row : ℕ → ℤ × ℤ → ℤ) (some : ℕ → ℕ → List (ℤ × ℤ)) where
   abbrev extreme_cell : (ℤ → ℤ → ℕ) → ℕ → ℕ → ℕ
-  extreme_cell height m n = extreme_of op (map (λ o. height (column m o) (row n o)) (some m n))
+  extreme_cell height m n = extreme_of which (map (λ o. height (column m o) (row n o)) (some m n))
 
   pub extremes_flat : FlatOperator (w * h) (λ f. by_cells w h (extreme_cell (height_at w h f)))
   extremes_flat = record {
     sheet = λ f long. length-map-range_with_len _ 0 (w * h);
     order = λ f g long same below. below_on_sheet (w * h) (by_cells w h (extreme_cell (height_at w h f))) _ (length-map-range_with_len _ 0 (w * h)) (λ p within.
-        rw (cell_at w h (extreme_cell (height_at w h f)) p within, cell_at) (extreme_order op _ _ (λ o. height_order w h f g below (column (p % w) o) (row (p / w) o)) (some (p % w) (p / w))));
+        rw (cell_at w h (extreme_cell (height_at w h f)) p within, cell_at) (extreme_order which _ _ (λ o. height_order w h f g below (column (p % w) o) (row (p / w) o)) (some (p % w) (p / w))));
     cuts = λ a f positive long.
         ap (λ height. by_cells w h (extreme_cell height)) (λ i x y. height_cut w h a f positive x y i)
-        ∙ ap (λ cell. map cell (range_with_len 0 (w * h))) (λ i p. extreme_cut a positive (λ o. height_at w h f (column (p % w) o) (row (p / w) o)) op (some (p % w) (p / w)) i)
+        ∙ ap (λ cell. map cell (range_with_len 0 (w * h))) (λ i p. extreme_cut a positive (λ o. height_at w h f (column (p % w) o) (row (p / w) o)) which (some (p % w) (p / w)) i)
         ∙ sym (map-map (cut_height a) (at_place w (extreme_cell (height_at w h f))) (range_with_len 0 (w * h)));
   }
 
@@ -76,8 +76,8 @@ module _ (w h : ℕ) (os : List (ℤ × ℤ)) where
   module _ (centre : (pos 0, pos 0) ∈ os) where
     pair_laws : PairLaws (w * h) (eroded w h os) (dilated w h os)
     pair_laws = record {
-      shrinks = extremes_flat Erosion w h (λ m o. pos m +ℤ o.0) (λ n o. pos n +ℤ o.1) (λ m n. os);
-      swells = extremes_flat Dilation w h (λ m o. pos m -ℤ o.0) (λ n o. pos n -ℤ o.1) (λ m n. os);
+      shrinks = extremes_flat Minimum w h (λ m o. pos m +ℤ o.0) (λ n o. pos n +ℤ o.1) (λ m n. os);
+      swells = extremes_flat Maximum w h (λ m o. pos m -ℤ o.0) (λ n o. pos n -ℤ o.1) (λ m n. os);
       above = λ f long. below_on_sheet (w * h) _ _ long (λ p within. dilated_at_least f p (pos 0, pos 0) p centre (leads_here p within));
       within = λ f long. below_on_sheet (w * h) (dilated w h os (eroded w h os f)) _ (length-map-range_with_len _ 0 (w * h)) (λ p within.
           rw cell_at (greatest_at_most (behind (eroded w h os f) p) (get_or f p 0) os (λ o m. elim (place_cases w h (pos (p % w) -ℤ o.0) (pos (p / w) -ℤ o.1)) [
@@ -93,7 +93,7 @@ module _ (w h : ℕ) (os : List (ℤ × ℤ)) where
     closing_pair_laws : ClosingPairLaws (w * h) (dilated w h os) (eroded_inside w h os)
     closing_pair_laws = record {
       swells = pair_laws.swells;
-      shrinks = extremes_flat Erosion w h (λ m o. pos m +ℤ o.0) (λ n o. pos n +ℤ o.1) (λ m n. filter (λ o. on_sheet w h (pos m +ℤ o.0) (pos n +ℤ o.1)) os);
+      shrinks = extremes_flat Minimum w h (λ m o. pos m +ℤ o.0) (λ n o. pos n +ℤ o.1) (λ m n. filter (λ o. on_sheet w h (pos m +ℤ o.0) (pos n +ℤ o.1)) os);
       above = λ f long. below_on_sheet (w * h) _ _ long (λ p within.
           let stays = λ (o : ℤ × ℤ). on_sheet w h (pos (p % w) +ℤ o.0) (pos (p / w) +ℤ o.1) in
           let kept = member_filter stays os (pos 0, pos 0) centre (on_at w h p _ _ (leads_here p within).1) in

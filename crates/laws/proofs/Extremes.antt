@@ -6,8 +6,8 @@ use Rattle.elements.specs.Offsets.{◌∈◌}
 use Rattle.morphology.specs.Cells.{extreme_of}
 use Rattle.morphology.specs.Erosion.{least, greatest}
 use Rattle.morphology.specs.Passes.{extreme}
-use Rattle.morphology.specs.declared.operation.Operation.{Operation}
-use Rattle.morphology.specs.declared.operation.Operation.TheVariants.{Erosion, Dilation}
+use Rattle.morphology.specs.declared.extremum.Extremum.{Extremum}
+use Rattle.morphology.specs.declared.extremum.Extremum.TheVariants.{Minimum, Maximum}
 use Rattle.laws.proofs.Cuts.{cut_height, cut_lowest}
 
 -- what a filter keeps is what passes
@@ -60,23 +60,23 @@ module _ {X : Type 0} (u : X → ℕ) where
   greatest_at_most t xs = fold_takes max (λ s. s ≤ t) u (λ r s p q. omega arith) 0 xs (omega arith)
 
 -- the extremes of heights that are nowhere above others
-pub extreme_order : {X : Type 0} (op : Operation) (u v : X → ℕ) → ((x : X) → u x ≤ v x) → (xs : List X) → extreme_of op (map u xs) ≤ extreme_of op (map v xs)
-extreme_order Erosion u v below [] = omega arith
-extreme_order Erosion u v below (y ∷ ys) =
+pub extreme_order : {X : Type 0} (which : Extremum) (u v : X → ℕ) → ((x : X) → u x ≤ v x) → (xs : List X) → extreme_of which (map u xs) ≤ extreme_of which (map v xs)
+extreme_order Minimum u v below [] = omega arith
+extreme_order Minimum u v below (y ∷ ys) =
     at_most_least v _ (y ∷ ys) y (inl refl) (λ x m. omega (arith, least_at_most u (y ∷ ys) x m, below x))
-extreme_order Dilation u v below xs = greatest_at_most u _ xs (λ x m. omega (arith, greatest_at_least v xs x m, below x))
+extreme_order Maximum u v below xs = greatest_at_most u _ xs (λ x m. omega (arith, greatest_at_least v xs x m, below x))
 
 -- the extreme of heights that are cut is that of the heights, cut
 module _ {X : Type 0} (a : ℕ) (positive : 1 ≤ a) (u : X → ℕ) where
-  both_cut : (op : Operation) (s t : ℕ) → extreme op (cut_height a s) (cut_height a t) ≡ cut_height a (extreme op s t)
-  both_cut Erosion s t = grind (arith, nat_tests)
-  both_cut Dilation s t = grind (arith, nat_tests)
+  both_cut : (which : Extremum) (s t : ℕ) → extreme which (cut_height a s) (cut_height a t) ≡ cut_height a (extreme which s t)
+  both_cut Minimum s t = grind (arith, nat_tests)
+  both_cut Maximum s t = grind (arith, nat_tests)
 
-  fold_cut : (op : Operation) (z s : ℕ) (xs : List X) → s ≡ cut_height a z → fold (extreme op) s (map (λ x. cut_height a (u x)) xs) ≡ cut_height a (fold (extreme op) z (map u xs))
-  fold_cut op z s [] e = e
-  fold_cut op z s (y ∷ ys) e = fold_cut op (extreme op z (u y)) (extreme op s (cut_height a (u y))) ys (rw e (both_cut op z (u y)))
+  fold_cut : (which : Extremum) (z s : ℕ) (xs : List X) → s ≡ cut_height a z → fold (extreme which) s (map (λ x. cut_height a (u x)) xs) ≡ cut_height a (fold (extreme which) z (map u xs))
+  fold_cut which z s [] e = e
+  fold_cut which z s (y ∷ ys) e = fold_cut which (extreme which z (u y)) (extreme which s (cut_height a (u y))) ys (rw e (both_cut which z (u y)))
 
-  pub extreme_cut : (op : Operation) (xs : List X) → extreme_of op (map (λ x. cut_height a (u x)) xs) ≡ cut_height a (extreme_of op (map u xs))
-  extreme_cut Erosion [] = sym (cut_lowest a positive)
-  extreme_cut Erosion (y ∷ ys) = fold_cut Erosion (u y) (cut_height a (u y)) ys refl
-  extreme_cut Dilation xs = fold_cut Dilation 0 0 xs (sym (cut_lowest a positive))
+  pub extreme_cut : (which : Extremum) (xs : List X) → extreme_of which (map (λ x. cut_height a (u x)) xs) ≡ cut_height a (extreme_of which (map u xs))
+  extreme_cut Minimum [] = sym (cut_lowest a positive)
+  extreme_cut Minimum (y ∷ ys) = fold_cut Minimum (u y) (cut_height a (u y)) ys refl
+  extreme_cut Maximum xs = fold_cut Maximum 0 0 xs (sym (cut_lowest a positive))

@@ -3,7 +3,7 @@ use Rattle.std.proofs.Common.{◌≡◌, ℕ, zero, suc, ◌+◌, ◌-◌, ◌�
 use Rattle.std.proofs.lemmas.Bool.Decides.{nat_tests}
 use Rattle.std.proofs.lemmas.Int.{ints}
 use Rattle.std.proofs.lemmas.List.{map-id}
-use Rattle.morphology.specs.declared.operation.Operation.{Operation}
+use Rattle.morphology.specs.declared.extremum.Extremum.{Extremum}
 use Rattle.laws.proofs.Extremes.{extreme_cut}
 use Rattle.morphology.specs.Cells.{extreme_of, cut}
 use Rattle.morphology.specs.Sheets.{area}
@@ -72,11 +72,11 @@ area_over_cuts top (x ∷ f) t =
     ∙ ap (fold_heights ◌+◌ 0 top) (λ i a. sym (area-cons (cut_height a x) (cut a f)) i)
 
 -- and its least and greatest height are the sums of those of its cuts
-pub extreme_over_cuts : (op : Operation) (top : ℕ) (f : List ℕ) → HeightsAtMost top f → extreme_of op f ≡ sum_to top (λ a. extreme_of op (cut a f))
-extreme_over_cuts op top f t =
-    height_over_cuts top (extreme_of op f) (height_topped top (extreme_of op f) (λ j.
-    sym (extreme_of_cut (suc top) (omega arith)) ∙ ap (extreme_of op) (cuts_alike top f t j) ∙ extreme_of_cut (suc top + j) (omega arith)))
+pub extreme_over_cuts : (which : Extremum) (top : ℕ) (f : List ℕ) → HeightsAtMost top f → extreme_of which f ≡ sum_to top (λ a. extreme_of which (cut a f))
+extreme_over_cuts which top f t =
+    height_over_cuts top (extreme_of which f) (height_topped top (extreme_of which f) (λ j.
+    sym (extreme_of_cut (suc top) (omega arith)) ∙ ap (extreme_of which) (cuts_alike top f t j) ∙ extreme_of_cut (suc top + j) (omega arith)))
     ∙ over_same ◌+◌ 0 top _ _ (λ a low. sym (extreme_of_cut a low))
   where
-    extreme_of_cut : (a : ℕ) → 1 ≤ a → extreme_of op (cut a f) ≡ cut_height a (extreme_of op f)
-    extreme_of_cut a low = extreme_cut a low (λ x. x) op f ∙ ap (λ g. cut_height a (extreme_of op g)) (map-id f)
+    extreme_of_cut : (a : ℕ) → 1 ≤ a → extreme_of which (cut a f) ≡ cut_height a (extreme_of which f)
+    extreme_of_cut a low = extreme_cut a low (λ x. x) which f ∙ ap (λ g. cut_height a (extreme_of which g)) (map-id f)

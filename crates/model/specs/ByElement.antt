@@ -1,14 +1,16 @@
 -- What an element makes of sheets of w × h heights. Assumes nothing.
-use Rattle.std.specs.Prelude.{ℕ, List}
+use Rattle.std.specs.Prelude.{ℕ, List, ℤ}
 use Rattle.elements.specs.declared.element.Element.{Element}
 use Rattle.elements.specs.Elements.{offsets}
 use Rattle.morphology.specs.Erosion.{dilated, eroded}
-use Rattle.bench.specs.Calls.{Making}
-use Rattle.operators.specs.Closings.{closing, eroded_inside}
+use Rattle.bench.specs.Calls.{Making, OfTwo}
+use Rattle.operators.specs.Closings.{closed_by}
 use Rattle.operators.specs.Openings.{opening}
 use Rattle.operators.specs.Reconstruction.{reconstructed, rounds}
 use Rattle.operators.specs.Skeletons.{skeleton}
 use Rattle.operators.specs.Spectra.{spectrum}
+use Rattle.operators.specs.Tallies.{differed, edge, peak}
+use Rattle.operators.specs.Valleys.{valley}
 
 -- Its erosion and dilation, and its closing of a size.
 abbrev pub shrink : Element → ℕ → ℕ → List ℕ → List ℕ
@@ -18,7 +20,7 @@ abbrev pub swell : Element → ℕ → ℕ → List ℕ → List ℕ
 swell e w h = dilated w h (offsets e)
 
 abbrev pub close : Element → ℕ → ℕ → ℕ → List ℕ → List ℕ
-close e w h = closing (dilated w h (offsets e)) (eroded_inside w h (offsets e))
+close e w h = closed_by w h (offsets e)
 
 -- What it makes of two sheets: its opening and closing of a size, for which only the first is read, and its reconstruction, from a
 -- marker and an upper sheet.
@@ -31,8 +33,22 @@ closing_by e size w h f g = close e w h size f
 abbrev pub reconstruction_by : Element → Making
 reconstruction_by e w h marker upper = reconstructed (swell e w h) marker upper
 
+-- What it makes of one sheet as a difference: its edge, its peak, and its valley; and the difference of two sheets, for which it is not
+-- asked.
+abbrev pub edge_by : Element → OfTwo (List ℤ)
+edge_by e w h f g = edge (shrink e w h) f
+
+abbrev pub peak_by : Element → OfTwo (List ℤ)
+peak_by e w h f g = peak (shrink e w h) (swell e w h) f
+
+abbrev pub valley_by : Element → OfTwo (List ℤ)
+valley_by e w h f g = valley (close e w h) f
+
+abbrev pub difference_of_two : OfTwo (List ℤ)
+difference_of_two w h f g = differed f g
+
 -- The changing rounds of its reconstruction; its spectrum and its skeleton to a depth.
-abbrev pub rounds_by : Element → ℕ → ℕ → List ℕ → List ℕ → ℕ
+abbrev pub rounds_by : Element → OfTwo ℕ
 rounds_by e w h = rounds (swell e w h)
 
 abbrev pub spectrum_by : Element → ℕ → ℕ → ℕ → List ℕ → List ℕ

@@ -6,12 +6,14 @@ use Rattle.limits.specs.Faults.{tells}
 use Rattle.morphology.specs.declared.operation.Operation.TheVariants.{Erosion, Dilation}
 use Rattle.morphology.specs.Cells.{joined, met}
 use Rattle.bench.specs.Model.{State, Tally, sheet_of, tally_of}
-use Rattle.bench.specs.Calls.{area_answer, as_opened, begin_leaves, begin_refusal, by_element, end_leaves, end_refusal, load_leaves, load_refusal, make_leaves, make_refusal}
-use Rattle.calls.specs.Told.{show_sheet_refusal, show_tally_refusal, span_answer}
+use Rattle.bench.specs.Calls.{as_opened, begin_leaves, begin_refusal, end_leaves, end_refusal, load_leaves, load_refusal, make_leaves, make_refusal}
+use Rattle.calls.specs.Made.{by_element}
+use Rattle.calls.specs.Told.{area_answer, show_sheet_refusal, show_tally_refusal, span_answer}
+use Rattle.model.specs.ByElement.{closing_by, difference_of_two, edge_by, opening_by, peak_by, reconstruction_by, valley_by}
 use Rattle.model.specs.Calls.{Call, Begin, End, Load, Erode, Dilate, Open, Close, Meet, Join, Regrow, Edge, Peak, Valley, Differ, Add, Scale, Area, Span, Spectrum, Skeleton, ShowSheet, ShowTally, Told, NothingTold, SlipTold, RoundsTold, AreaTold, SpanTold, SpectrumTold, SkeletonTold, SheetTold, TallyTold}
 use Rattle.model.specs.ListCalls.{skeleton_answer, spectrum_answer}
-use Rattle.model.specs.SheetCalls.{close_leaves, close_refusal, open_leaves, open_refusal, regrow_answer, regrow_leaves}
-use Rattle.model.specs.TallyCalls.{add_leaves, add_refusal, differ_leaves, differ_refusal, edge_leaves, edge_refusal, peak_leaves, peak_refusal, scale_leaves, scale_refusal, valley_leaves, valley_refusal}
+use Rattle.model.specs.SheetCalls.{of_size_leaves, of_size_refusal, regrow_answer}
+use Rattle.model.specs.TallyCalls.{add_leaves, add_refusal, difference_leaves, difference_refusal, scale_leaves, scale_refusal}
 use Rattle.model.specs.Weights.{multiple, sum_of_tallies}
 
 -- A bench is a rack and its slate.
@@ -20,7 +22,7 @@ pub record Bench : Type 0 where
   pub slate : State Tally
 
 -- The sizes that a rack or a slate is opened with: its sides, its places, and how long its memory is.
-pub record OpeningSizes : Type 0 where
+pub record GivenSizes : Type 0 where
   pub w : ℕ
   pub h : ℕ
   pub places : ℕ
@@ -28,8 +30,8 @@ pub record OpeningSizes : Type 0 where
 
 -- The sizes, right or wrong, that a bench is opened with.
 pub record BenchSizes : Type 0 where
-  pub rack : OpeningSizes
-  pub slate : OpeningSizes
+  pub rack : GivenSizes
+  pub slate : GivenSizes
 
 -- The bench as it opens. A rack has two working planes, a slate none.
 abbrev pub bench_opened : BenchSizes → Bench
@@ -58,15 +60,15 @@ step b (End flat) = record {
 step b (Load place picture) = with_rack b (load_leaves b.rack place picture)
 step b (Erode e from to) = with_rack b (make_leaves (by_element Erosion (offsets e)) b.rack from from to)
 step b (Dilate e from to) = with_rack b (make_leaves (by_element Dilation (offsets e)) b.rack from from to)
-step b (Open e size from to) = with_rack b (open_leaves e b.rack size from to)
-step b (Close e size from to) = with_rack b (close_leaves e b.rack size from to)
+step b (Open e size from to) = with_rack b (of_size_leaves (opening_by e) b.rack size from to)
+step b (Close e size from to) = with_rack b (of_size_leaves (closing_by e) b.rack size from to)
 step b (Meet one other to) = with_rack b (make_leaves (λ w h. met) b.rack one other to)
 step b (Join one other to) = with_rack b (make_leaves (λ w h. joined) b.rack one other to)
-step b (Regrow e marker upper to) = with_rack b (regrow_leaves e b.rack marker upper to)
-step b (Edge e from to) = with_slate b (edge_leaves e b.rack b.slate from to)
-step b (Peak e from to) = with_slate b (peak_leaves e b.rack b.slate from to)
-step b (Valley e from to) = with_slate b (valley_leaves e b.rack b.slate from to)
-step b (Differ one other to) = with_slate b (differ_leaves b.rack b.slate one other to)
+step b (Regrow e marker upper to) = with_rack b (make_leaves (reconstruction_by e) b.rack marker upper to)
+step b (Edge e from to) = with_slate b (difference_leaves (edge_by e) b.rack b.slate from from to)
+step b (Peak e from to) = with_slate b (difference_leaves (peak_by e) b.rack b.slate from from to)
+step b (Valley e from to) = with_slate b (difference_leaves (valley_by e) b.rack b.slate from from to)
+step b (Differ one other to) = with_slate b (difference_leaves difference_of_two b.rack b.slate one other to)
 step b (Add one other to) = with_slate b (add_leaves b.slate one other to)
 step b (Scale factor from to) = with_slate b (scale_leaves b.slate factor from to)
 step b (Area place) = b
@@ -88,15 +90,15 @@ answer b (End flat) = tells (end_refusal b.rack.outline b.slate.outline flat) No
 answer b (Load place picture) = tells (load_refusal b.rack.outline place (length picture)) NothingTold
 answer b (Erode e from to) = tells (make_refusal b.rack.outline from from to) NothingTold
 answer b (Dilate e from to) = tells (make_refusal b.rack.outline from from to) NothingTold
-answer b (Open e size from to) = tells (open_refusal b.rack.outline size from to) NothingTold
-answer b (Close e size from to) = tells (close_refusal b.rack.outline size from to) NothingTold
+answer b (Open e size from to) = tells (of_size_refusal b.rack.outline size from to) NothingTold
+answer b (Close e size from to) = tells (of_size_refusal b.rack.outline size from to) NothingTold
 answer b (Meet one other to) = tells (make_refusal b.rack.outline one other to) NothingTold
 answer b (Join one other to) = tells (make_refusal b.rack.outline one other to) NothingTold
 answer b (Regrow e marker upper to) = telling RoundsTold (regrow_answer e b.rack marker upper to)
-answer b (Edge e from to) = tells (edge_refusal b.rack.outline b.slate.outline from to) NothingTold
-answer b (Peak e from to) = tells (peak_refusal b.rack.outline b.slate.outline from to) NothingTold
-answer b (Valley e from to) = tells (valley_refusal b.rack.outline b.slate.outline from to) NothingTold
-answer b (Differ one other to) = tells (differ_refusal b.rack.outline b.slate.outline one other to) NothingTold
+answer b (Edge e from to) = tells (difference_refusal b.rack.outline b.slate.outline from from to) NothingTold
+answer b (Peak e from to) = tells (difference_refusal b.rack.outline b.slate.outline from from to) NothingTold
+answer b (Valley e from to) = tells (difference_refusal b.rack.outline b.slate.outline from from to) NothingTold
+answer b (Differ one other to) = tells (difference_refusal b.rack.outline b.slate.outline one other to) NothingTold
 answer b (Add one other to) =
     tells (add_refusal b.slate.outline (sum_of_tallies (tally_of b.slate one) (tally_of b.slate other)) one other to) NothingTold
 answer b (Scale factor from to) =

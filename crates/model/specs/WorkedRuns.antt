@@ -161,7 +161,7 @@ wrong = record {
 
 -- outlines of a rack and a slate of 2 × 1 cells in a visit to a flat, with one place, filled or not
 abbrev in_visit : ℕ → Bool → Outline
-in_visit flat filled = record { w = 2; h = 1; places = 1; visit = Some flat; filled = λ k. filled }
+in_visit flat filled = record { w = 2; h = 1; places = 1; visit = Some (record { flat = flat }); filled = λ k. filled }
 
 -- All calls get their answers. Last what no run of one bench meets: a rack and a slate in different visits or of different sides, at a
 -- tally of a sheet, at end and at begin.

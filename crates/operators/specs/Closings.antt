@@ -1,7 +1,7 @@
 -- Closings. Assumes nothing.
 use Rattle.std.specs.Prelude.{ℕ, ◌-◌, Bool, false, ◌&&◌, List, map, ℤ, pos, negsuc, ◌+ℤ◌, filter, nat_lt}
 use Rattle.std.specs.List.{range_with_len}
-use Rattle.morphology.specs.Erosion.{least}
+use Rattle.morphology.specs.Erosion.{dilated, least}
 use Rattle.morphology.specs.Sheets.{area, by_cells, height_at}
 use Rattle.operators.specs.Maps.{times}
 
@@ -24,6 +24,10 @@ eroded_inside w h offsets f = by_cells w h (erosion_inside_at w h offsets f)
 -- closing of size k: k dilations, then k erosions that skip offsets falling outside; size 0 is the sheet itself
 abbrev pub closing : (List ℕ → List ℕ) → (List ℕ → List ℕ) → ℕ → List ℕ → List ℕ
 closing swell shrink_inside k f = times k shrink_inside (times k swell f)
+
+-- closing of size k by an element of these offsets
+abbrev pub closed_by : ℕ → ℕ → List (ℤ × ℤ) → ℕ → List ℕ → List ℕ
+closed_by w h offsets = closing (dilated w h offsets) (eroded_inside w h offsets)
 
 -- The entry of size −n of a pattern spectrum, where `close k` is the closing of size k: the area of the closing of size n minus that of
 -- the size before. And the entries of the sizes from −depth to −1.

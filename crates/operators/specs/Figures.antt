@@ -7,7 +7,7 @@ use Rattle.elements.specs.BuiltIns.{pair}
 use Rattle.limits.specs.Faults.{refusal_number}
 use Rattle.morphology.specs.Cells.{cut}
 use Rattle.morphology.specs.Erosion.{eroded, dilated}
-use Rattle.operators.specs.Closings.{closing, eroded_inside}
+use Rattle.operators.specs.Closings.{closed_by}
 use Rattle.operators.specs.Openings.{opening}
 use Rattle.operators.specs.Reconstruction.{reconstructed, rounds}
 use Rattle.operators.specs.Restoring.{answer_list, restore_refusal, restored, work_list}
@@ -16,22 +16,14 @@ use Rattle.operators.specs.Spectra.{opening_spectrum, spectrum}
 use Rattle.operators.specs.Tallies.{added, differed, edge, peak, scaled}
 use Rattle.operators.specs.Valleys.{valley}
 
--- The erosion, dilation and closing by the element of (0, 0) and (1, 0) on a line of w cells.
-abbrev shrink : ℕ → List ℕ → List ℕ
-shrink w = eroded w 1 pair
-
-abbrev swell : ℕ → List ℕ → List ℕ
-swell w = dilated w 1 pair
-
-abbrev close : ℕ → ℕ → List ℕ → List ℕ
-close w = closing (swell w) (eroded_inside w 1 pair)
+-- The figures are of lines of w cells, and of the element `pair`, which has (0, 0) and (1, 0).
 
 -- The line of five cells that most figures are of, and its skeleton.
 abbrev line : List ℕ
 line = 0 ∷ 2 ∷ 1 ∷ 2 ∷ 0 ∷ []
 
 abbrev line_skeleton : List ℕ
-line_skeleton = skeleton (shrink 5) (swell 5) 2 line
+line_skeleton = skeleton (eroded 5 1 pair) (dilated 5 1 pair) 2 line
 
 abbrev longer_line : List ℕ
 longer_line = 0 ∷ 2 ∷ 1 ∷ 2 ∷ 3 ∷ 4 ∷ 0 ∷ 4 ∷ 4 ∷ 1 ∷ 2 ∷ 3 ∷ 2 ∷ 1 ∷ 0 ∷ []
@@ -40,14 +32,14 @@ longer_line = 0 ∷ 2 ∷ 1 ∷ 2 ∷ 3 ∷ 4 ∷ 0 ∷ 4 ∷ 4 ∷ 1 ∷ 2 ∷ 
 abbrev pub figures : List (List ℤ × List ℤ)
 figures =
     -- erosion, dilation, opening and closing of size 1
-    (map pos (shrink 5 line), pos 0 ∷ pos 1 ∷ pos 1 ∷ pos 0 ∷ pos 0 ∷ [])
-    ∷ (map pos (swell 5 line), pos 0 ∷ pos 2 ∷ pos 2 ∷ pos 2 ∷ pos 2 ∷ [])
-    ∷ (map pos (opening (shrink 5) (swell 5) 1 line), pos 0 ∷ pos 1 ∷ pos 1 ∷ pos 1 ∷ pos 0 ∷ [])
-    ∷ (map pos (close 5 1 line), pos 0 ∷ pos 2 ∷ pos 2 ∷ pos 2 ∷ pos 2 ∷ [])
+    (map pos (eroded 5 1 pair line), pos 0 ∷ pos 1 ∷ pos 1 ∷ pos 0 ∷ pos 0 ∷ [])
+    ∷ (map pos (dilated 5 1 pair line), pos 0 ∷ pos 2 ∷ pos 2 ∷ pos 2 ∷ pos 2 ∷ [])
+    ∷ (map pos (opening (eroded 5 1 pair) (dilated 5 1 pair) 1 line), pos 0 ∷ pos 1 ∷ pos 1 ∷ pos 1 ∷ pos 0 ∷ [])
+    ∷ (map pos (closed_by 5 1 pair 1 line), pos 0 ∷ pos 2 ∷ pos 2 ∷ pos 2 ∷ pos 2 ∷ [])
     -- peak
-    ∷ (peak (shrink 5) (swell 5) line, pos 0 ∷ pos 1 ∷ pos 0 ∷ pos 1 ∷ pos 0 ∷ [])
+    ∷ (peak (eroded 5 1 pair) (dilated 5 1 pair) line, pos 0 ∷ pos 1 ∷ pos 0 ∷ pos 1 ∷ pos 0 ∷ [])
     -- the spectrum to depth 2
-    ∷ (map pos (spectrum (close 5) (shrink 5) (swell 5) 2 line), pos 0 ∷ pos 3 ∷ pos 2 ∷ pos 0 ∷ pos 3 ∷ [])
+    ∷ (map pos (spectrum (closed_by 5 1 pair) (eroded 5 1 pair) (dilated 5 1 pair) 2 line), pos 0 ∷ pos 3 ∷ pos 2 ∷ pos 0 ∷ pos 3 ∷ [])
     -- the skeleton to depth 2, and what is restored from it to sizes 1 and 0: the opening of size 1, and the line
     ∷ (
       map pos line_skeleton,
@@ -55,13 +47,13 @@ figures =
           ∷ pos 0 ∷ pos 0 ∷ pos 0 ∷ pos 0 ∷ pos 0
           ∷ pos 0 ∷ pos 1 ∷ pos 0 ∷ pos 0 ∷ pos 0 ∷ [],
     )
-    ∷ (map pos (restored (swell 5) 5 2 1 line_skeleton), pos 0 ∷ pos 1 ∷ pos 1 ∷ pos 1 ∷ pos 0 ∷ [])
-    ∷ (map pos (restored (swell 5) 5 2 0 line_skeleton), map pos line)
+    ∷ (map pos (restored (dilated 5 1 pair) 5 2 1 line_skeleton), pos 0 ∷ pos 1 ∷ pos 1 ∷ pos 1 ∷ pos 0 ∷ [])
+    ∷ (map pos (restored (dilated 5 1 pair) 5 2 0 line_skeleton), map pos line)
     -- reconstruction from a marker, and its changing rounds
-    ∷ (map pos (reconstructed (swell 5) (0 ∷ 2 ∷ 0 ∷ 0 ∷ 0 ∷ []) line), pos 0 ∷ pos 2 ∷ pos 1 ∷ pos 1 ∷ pos 0 ∷ [])
-    ∷ (pos (rounds (swell 5) (0 ∷ 2 ∷ 0 ∷ 0 ∷ 0 ∷ []) line) ∷ [], pos 2 ∷ [])
+    ∷ (map pos (reconstructed (dilated 5 1 pair) (0 ∷ 2 ∷ 0 ∷ 0 ∷ 0 ∷ []) line), pos 0 ∷ pos 2 ∷ pos 1 ∷ pos 1 ∷ pos 0 ∷ [])
+    ∷ (pos (rounds (dilated 5 1 pair) (0 ∷ 2 ∷ 0 ∷ 0 ∷ 0 ∷ []) line) ∷ [], pos 2 ∷ [])
     -- the spectrum to depth 1 of one cell of 5
-    ∷ (map pos (spectrum (close 1) (shrink 1) (swell 1) 1 (5 ∷ [])), pos 0 ∷ pos 5 ∷ pos 0 ∷ [])
+    ∷ (map pos (spectrum (closed_by 1 1 pair) (eroded 1 1 pair) (dilated 1 1 pair) 1 (5 ∷ [])), pos 0 ∷ pos 5 ∷ pos 0 ∷ [])
     ∷ []
 
 -- Further figures, of what the ones above leave open.
@@ -70,46 +62,46 @@ further_figures =
     -- a cut
     (map pos (cut 1 line), pos 0 ∷ pos 1 ∷ pos 1 ∷ pos 1 ∷ pos 0 ∷ [])
     -- of two cells the opening of size 2, which one of size 1 keeps, and the peak, which has nothing of it
-    ∷ (map pos (opening (shrink 3) (swell 3) 2 (1 ∷ 1 ∷ 0 ∷ [])), pos 0 ∷ pos 0 ∷ pos 0 ∷ [])
-    ∷ (peak (shrink 3) (swell 3) (1 ∷ 1 ∷ 0 ∷ []), pos 0 ∷ pos 0 ∷ pos 0 ∷ [])
+    ∷ (map pos (opening (eroded 3 1 pair) (dilated 3 1 pair) 2 (1 ∷ 1 ∷ 0 ∷ [])), pos 0 ∷ pos 0 ∷ pos 0 ∷ [])
+    ∷ (peak (eroded 3 1 pair) (dilated 3 1 pair) (1 ∷ 1 ∷ 0 ∷ []), pos 0 ∷ pos 0 ∷ pos 0 ∷ [])
     -- the spectrum from size 0 to 6 of a line of fifteen cells, as it was published, and the rest
-    ∷ (map pos (opening_spectrum (shrink 15) (swell 15) 7 longer_line), pos 3 ∷ pos 8 ∷ pos 6 ∷ pos 0 ∷ pos 5 ∷ pos 0 ∷ pos 7 ∷ pos 0 ∷ [])
+    ∷ (map pos (opening_spectrum (eroded 15 1 pair) (dilated 15 1 pair) 7 longer_line), pos 3 ∷ pos 8 ∷ pos 6 ∷ pos 0 ∷ pos 5 ∷ pos 0 ∷ pos 7 ∷ pos 0 ∷ [])
     -- edge and valley; a sum and a multiple of differences
-    ∷ (edge (shrink 5) line, pos 0 ∷ pos 1 ∷ pos 0 ∷ pos 2 ∷ pos 0 ∷ [])
-    ∷ (valley (close 5) line, pos 0 ∷ pos 0 ∷ pos 1 ∷ pos 0 ∷ pos 2 ∷ [])
+    ∷ (edge (eroded 5 1 pair) line, pos 0 ∷ pos 1 ∷ pos 0 ∷ pos 2 ∷ pos 0 ∷ [])
+    ∷ (valley (closed_by 5 1 pair) line, pos 0 ∷ pos 0 ∷ pos 1 ∷ pos 0 ∷ pos 2 ∷ [])
     ∷ (added (differed (1 ∷ 4 ∷ []) (3 ∷ 1 ∷ [])) (pos 1 ∷ pos 1 ∷ []), negsuc 0 ∷ pos 4 ∷ [])
     ∷ (scaled (negsuc 1) (differed (1 ∷ 4 ∷ []) (3 ∷ 1 ∷ [])), pos 4 ∷ negsuc 5 ∷ [])
     -- reconstruction from a marker that is above the upper sheet in one cell
-    ∷ (map pos (reconstructed (swell 5) (5 ∷ 0 ∷ 0 ∷ 5 ∷ 0 ∷ []) line), pos 0 ∷ pos 0 ∷ pos 0 ∷ pos 2 ∷ pos 0 ∷ [])
-    ∷ (pos (rounds (swell 5) (5 ∷ 0 ∷ 0 ∷ 5 ∷ 0 ∷ []) line) ∷ [], pos 0 ∷ [])
+    ∷ (map pos (reconstructed (dilated 5 1 pair) (5 ∷ 0 ∷ 0 ∷ 5 ∷ 0 ∷ []) line), pos 0 ∷ pos 0 ∷ pos 0 ∷ pos 2 ∷ pos 0 ∷ [])
+    ∷ (pos (rounds (dilated 5 1 pair) (5 ∷ 0 ∷ 0 ∷ 5 ∷ 0 ∷ []) line) ∷ [], pos 0 ∷ [])
     ∷ []
 
 -- The refusals of restore on lines of two cells, in their order; the last two are accepted.
 abbrev pub refusal_figures : List (ℕ × ℕ)
 refusal_figures =
-    (refusal_number (restore_refusal (swell 2) 0 1 65 66 [] 1 2), 1)
-    ∷ (refusal_number (restore_refusal (swell 2) 2 1025 65 66 [] 1 2), 1)
-    ∷ (refusal_number (restore_refusal (swell 2) 2 1 65 66 [] 1 2), 4)
-    ∷ (refusal_number (restore_refusal (swell 2) 2 1 65 66 [] 2 3), 4)
-    ∷ (refusal_number (restore_refusal (swell 2) 2 1 65 66 [] 2 2), 7)
-    ∷ (refusal_number (restore_refusal (swell 2) 2 1 0 0 [] 2 2), 7)
-    ∷ (refusal_number (restore_refusal (swell 2) 2 1 1 2 [] 2 2), 7)
-    ∷ (refusal_number (restore_refusal (swell 2) 2 1 1 1 (0 ∷ 0 ∷ 65537 ∷ []) 2 2), 8)
-    ∷ (refusal_number (restore_refusal (swell 2) 2 1 1 1 (0 ∷ 0 ∷ 65537 ∷ 0 ∷ []) 2 2), 21)
-    ∷ (refusal_number (restore_refusal (swell 2) 2 1 1 0 (0 ∷ 1 ∷ 65536 ∷ 0 ∷ []) 2 2), 21)
-    ∷ (refusal_number (restore_refusal (swell 2) 2 1 1 1 (0 ∷ 1 ∷ 65536 ∷ 0 ∷ []) 2 2), 0)
-    ∷ (refusal_number (restore_refusal (swell 2) 2 1 64 64 (replicate 130 0) 2 2), 0)
+    (refusal_number (restore_refusal (dilated 2 1 pair) 0 1 65 66 [] 1 2), 1)
+    ∷ (refusal_number (restore_refusal (dilated 2 1 pair) 2 1025 65 66 [] 1 2), 1)
+    ∷ (refusal_number (restore_refusal (dilated 2 1 pair) 2 1 65 66 [] 1 2), 4)
+    ∷ (refusal_number (restore_refusal (dilated 2 1 pair) 2 1 65 66 [] 2 3), 4)
+    ∷ (refusal_number (restore_refusal (dilated 2 1 pair) 2 1 65 66 [] 2 2), 7)
+    ∷ (refusal_number (restore_refusal (dilated 2 1 pair) 2 1 0 0 [] 2 2), 7)
+    ∷ (refusal_number (restore_refusal (dilated 2 1 pair) 2 1 1 2 [] 2 2), 7)
+    ∷ (refusal_number (restore_refusal (dilated 2 1 pair) 2 1 1 1 (0 ∷ 0 ∷ 65537 ∷ []) 2 2), 8)
+    ∷ (refusal_number (restore_refusal (dilated 2 1 pair) 2 1 1 1 (0 ∷ 0 ∷ 65537 ∷ 0 ∷ []) 2 2), 21)
+    ∷ (refusal_number (restore_refusal (dilated 2 1 pair) 2 1 1 0 (0 ∷ 1 ∷ 65536 ∷ 0 ∷ []) 2 2), 21)
+    ∷ (refusal_number (restore_refusal (dilated 2 1 pair) 2 1 1 1 (0 ∷ 1 ∷ 65536 ∷ 0 ∷ []) 2 2), 0)
+    ∷ (refusal_number (restore_refusal (dilated 2 1 pair) 2 1 64 64 (replicate 130 0) 2 2), 0)
     ∷ []
 
 -- what a restore leaves in its two lists, accepted, refused for a cell, and refused for a length
 abbrev pub restore_figures : List (List ℤ × List ℤ)
 restore_figures =
-    (map pos (answer_list (swell 2) 2 1 1 1 (0 ∷ 1 ∷ 3 ∷ 0 ∷ []) (8 ∷ 9 ∷ []) (6 ∷ 7 ∷ [])), pos 3 ∷ pos 3 ∷ [])
-    ∷ (map pos (work_list (swell 2) 2 1 1 1 (0 ∷ 1 ∷ 3 ∷ 0 ∷ []) (8 ∷ 9 ∷ []) (6 ∷ 7 ∷ [])), pos 0 ∷ pos 0 ∷ [])
-    ∷ (map pos (answer_list (swell 2) 2 1 1 1 (0 ∷ 1 ∷ 65537 ∷ 0 ∷ []) (8 ∷ 9 ∷ []) (6 ∷ 7 ∷ [])), pos 0 ∷ pos 0 ∷ [])
-    ∷ (map pos (work_list (swell 2) 2 1 1 1 (0 ∷ 1 ∷ 65537 ∷ 0 ∷ []) (8 ∷ 9 ∷ []) (6 ∷ 7 ∷ [])), pos 0 ∷ pos 0 ∷ [])
-    ∷ (map pos (answer_list (swell 2) 2 1 1 1 (0 ∷ 1 ∷ 3 ∷ []) (8 ∷ 9 ∷ []) (6 ∷ 7 ∷ [])), pos 8 ∷ pos 9 ∷ [])
-    ∷ (map pos (work_list (swell 2) 2 1 1 1 (0 ∷ 1 ∷ 3 ∷ []) (8 ∷ 9 ∷ []) (6 ∷ 7 ∷ [])), pos 6 ∷ pos 7 ∷ [])
+    (map pos (answer_list (dilated 2 1 pair) 2 1 1 1 (0 ∷ 1 ∷ 3 ∷ 0 ∷ []) (8 ∷ 9 ∷ []) (6 ∷ 7 ∷ [])), pos 3 ∷ pos 3 ∷ [])
+    ∷ (map pos (work_list (dilated 2 1 pair) 2 1 1 1 (0 ∷ 1 ∷ 3 ∷ 0 ∷ []) (8 ∷ 9 ∷ []) (6 ∷ 7 ∷ [])), pos 0 ∷ pos 0 ∷ [])
+    ∷ (map pos (answer_list (dilated 2 1 pair) 2 1 1 1 (0 ∷ 1 ∷ 65537 ∷ 0 ∷ []) (8 ∷ 9 ∷ []) (6 ∷ 7 ∷ [])), pos 0 ∷ pos 0 ∷ [])
+    ∷ (map pos (work_list (dilated 2 1 pair) 2 1 1 1 (0 ∷ 1 ∷ 65537 ∷ 0 ∷ []) (8 ∷ 9 ∷ []) (6 ∷ 7 ∷ [])), pos 0 ∷ pos 0 ∷ [])
+    ∷ (map pos (answer_list (dilated 2 1 pair) 2 1 1 1 (0 ∷ 1 ∷ 3 ∷ []) (8 ∷ 9 ∷ []) (6 ∷ 7 ∷ [])), pos 8 ∷ pos 9 ∷ [])
+    ∷ (map pos (work_list (dilated 2 1 pair) 2 1 1 1 (0 ∷ 1 ∷ 3 ∷ []) (8 ∷ 9 ∷ []) (6 ∷ 7 ∷ [])), pos 6 ∷ pos 7 ∷ [])
     ∷ []
 
 -- whether a figure is what it has to be

@@ -39,17 +39,17 @@ restore_refusal swell w h depth size pieces answer_len work_len =
     (first (list_any (nat_lt 65536) (rebuilt swell (w * h) depth pieces (depth - size))) RestoreCell None))))
 
 -- what stands in a list that held `old`: this where the call is accepted, zeros where a cell was too high, and else what it held
-abbrev pub written : Option Fault → List ℕ → List ℕ → List ℕ
-written None this old = this
-written (Some RestoreCell) this old = replicate (length old) 0
-written (Some fault) this old = old
+abbrev pub left_in_list : Option Fault → List ℕ → List ℕ → List ℕ
+left_in_list None this old = this
+left_in_list (Some RestoreCell) this old = replicate (length old) 0
+left_in_list (Some fault) this old = old
 
 -- the answer list afterwards: the restored sheet
 abbrev pub answer_list : (List ℕ → List ℕ) → ℕ → ℕ → ℕ → ℕ → List ℕ → List ℕ → List ℕ → List ℕ
 answer_list swell w h depth size pieces answer work =
-    written (restore_refusal swell w h depth size pieces (length answer) (length work)) (restored swell (w * h) depth size pieces) answer
+    left_in_list (restore_refusal swell w h depth size pieces (length answer) (length work)) (restored swell (w * h) depth size pieces) answer
 
 -- the work list afterwards: zeros
 abbrev pub work_list : (List ℕ → List ℕ) → ℕ → ℕ → ℕ → ℕ → List ℕ → List ℕ → List ℕ → List ℕ
 work_list swell w h depth size pieces answer work =
-    written (restore_refusal swell w h depth size pieces (length answer) (length work)) (replicate (w * h) 0) work
+    left_in_list (restore_refusal swell w h depth size pieces (length answer) (length work)) (replicate (w * h) 0) work

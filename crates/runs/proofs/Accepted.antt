@@ -5,12 +5,13 @@ use Rattle.limits.specs.declared.fault.Fault.{Fault}
 use Rattle.limits.specs.declared.fault.Fault.TheVariants.{EmptySheet, SheetPlace, Unequal, VisitOpen}
 use Rattle.std.specs.Prelude.{◌==◌}
 use Rattle.model.specs.ListCalls.{depth_refusal}
-use Rattle.model.specs.SheetCalls.{sized_refusal}
+use Rattle.model.specs.SheetCalls.{of_size_refusal}
 use Rattle.model.specs.TallyCalls.{add_refusal, difference_refusal, scale_refusal}
 use Rattle.limits.specs.Faults.{first, tells, told}
 use Rattle.limits.specs.Sizes.{lawful_flat, lawful_size, lawful_factor}
-use Rattle.bench.specs.Model.{Outline, Tally, is_place}
-use Rattle.bench.specs.Calls.{begin_refusal, equal_benches, make_refusal, same_visit}
+use Rattle.bench.specs.Model.{Outline, Tally, flat_of, is_place}
+use Rattle.bench.specs.declared.visit.Visit.{Visit}
+use Rattle.bench.specs.Calls.{begin_refusal, equal_benches, make_refusal, same_flat}
 use Rattle.bench.proofs.Refusals.{make_accepted, source_accepted}
 
 -- a table that refuses nothing has passed the test that comes first, and refuses nothing after it
@@ -38,15 +39,15 @@ make_sources o one other to h =
     let m = make_accepted o one other to (sym (ap told h)) in
     record { visit = m.visit; one_filled = m.one_filled; other_filled = m.other_filled }
 
-pub sized_sources : (o : Outline) (size from to : ℕ) → sized_refusal o size from to ≡ None → Sources o from from
-sized_sources o size from to h =
+pub of_size_sources : (o : Outline) (size from to : ℕ) → of_size_refusal o size from to ≡ None → Sources o from from
+of_size_sources o size from to h =
     let places = passed (is_place o.places from && is_place o.places to) _ _ h in
     let sized = passed (lawful_size size) _ _ places.1 in
     let visit = passed (is_some o.visit) _ _ sized.1 in
     let filled = passed (o.filled from) _ _ visit.1 in
     record { visit = visit.0; one_filled = filled.0; other_filled = filled.0 }
 
-open_alike : (a b : Option ℕ) → same_visit a b ≡ true → is_some a ≡ true → is_some b ≡ true
+open_alike : (a b : Option Visit) → same_flat (flat_of a) (flat_of b) ≡ true → is_some a ≡ true → is_some b ≡ true
 open_alike None b same some = absurd (false≢true some)
 open_alike (Some a) None same some = absurd (false≢true same)
 open_alike (Some a) (Some b) same some = refl
@@ -98,7 +99,7 @@ begin_closed rack slate flat h =
     let lawful = passed (lawful_flat flat) _ _ h in
     neither rack.visit slate.visit lawful.1
   where
-    neither : (a b : Option ℕ) → first (is_some a || is_some b) VisitOpen (first (not (equal_benches rack slate)) Unequal None) ≡ None → (a ≡ None) × (b ≡ None)
+    neither : (a b : Option Visit) → first (is_some a || is_some b) VisitOpen (first (not (equal_benches rack slate)) Unequal None) ≡ None → (a ≡ None) × (b ≡ None)
     neither None None h = (refl, refl)
     neither None (Some b) h = absurd (let z : ◌≡◌ {A = ℕ} 0 1 = cc in omega arith)
     neither (Some a) b h = absurd (let z : ◌≡◌ {A = ℕ} 0 1 = cc in omega arith)

@@ -6,12 +6,14 @@ use Rattle.std.specs.Prelude.{unsigned_abs}
 use Rattle.std.proofs.lemmas.List.{length-map}
 use Rattle.elements.specs.declared.element.Element.{Element}
 use Rattle.limits.specs.Faults.{told}
-use Rattle.morphology.specs.declared.operation.Operation.{Operation}
+use Rattle.morphology.specs.declared.extremum.Extremum.{Extremum}
+use Rattle.morphology.specs.declared.extremum.Extremum.TheVariants.{Minimum, Maximum}
 use Rattle.morphology.specs.declared.operation.Operation.TheVariants.{Erosion, Dilation}
 use Rattle.morphology.specs.Cells.{cut, extreme_of, joined, met}
 use Rattle.morphology.specs.Sheets.{area}
 use Rattle.bench.specs.Model.{Tally, sheet_of, tally_of}
-use Rattle.bench.specs.Calls.{Making, begin_refusal, by_element, end_refusal, load_refusal, make_refusal, sheet_refusal}
+use Rattle.bench.specs.Calls.{Making, begin_refusal, end_refusal, load_refusal, made_of, make_refusal, sheet_refusal}
+use Rattle.calls.specs.Made.{by_element}
 use Rattle.bench.proofs.Refusals.{load_accepted}
 use Rattle.calls.specs.Told.{show_sheet_refusal, show_tally_refusal}
 use Rattle.elements.specs.Elements.{offsets}
@@ -27,14 +29,14 @@ use Rattle.laws.proofs.SumsOfCuts.{area_over_cuts, extreme_over_cuts, swap_int_s
 use Rattle.model.specs.Calls.{Call, Begin, End, Load, Erode, Dilate, Open, Close, Meet, Join, Regrow, Edge, Peak, Valley, Differ, Add, Scale, Area, Span, Spectrum, Skeleton, ShowSheet, ShowTally, SheetTold}
 use Rattle.model.specs.ByElement.{close, closing_by, opening_by, reconstruction_by, rounds_by, shrink, skeleton_by, spectrum_by, swell}
 use Rattle.model.specs.ListCalls.{skeleton_refusal, spectrum_refusal}
-use Rattle.model.specs.SheetCalls.{sized_refusal}
+use Rattle.model.specs.SheetCalls.{of_size_refusal}
 use Rattle.model.specs.Steps.{Bench}
 use Rattle.model.specs.TallyCalls.{add_refusal, difference_refusal, scale_refusal}
 use Rattle.model.specs.Weights.{multiple, sum_of_tallies, WithinWeight}
-use Rattle.runs.proofs.Parts.{extreme_of_sheet, list_of, rounds_of, difference_of, leaves, made_of, refusal, the_first, the_second, told_by, with_sheet, with_tally}
+use Rattle.runs.proofs.Parts.{extreme_of_sheet, list_of, rounds_of, difference_of, leaves, refusal, the_first, the_second, told_by, with_sheet, with_tally}
 use Rattle.runs.specs.Sums.{BenchSum, TallySum, ToldSum}
 use Rattle.runs.specs.Theorems.{cut_at, in_heights}
-use Rattle.runs.proofs.Accepted.{Sources, add_light, difference_sources, depth_listed, make_sources, scale_light, sized_sources}
+use Rattle.runs.proofs.Accepted.{Sources, add_light, difference_sources, depth_listed, make_sources, scale_light, of_size_sources}
 use Rattle.runs.proofs.Makings.{CutMaking, closing_making, closings_of, element_making, first_making, join_making, meet_making, opening_making, regrow_laws, regrow_making, second_making}
 use Rattle.runs.proofs.Multiples.{multiple_of_sum}
 use Rattle.runs.proofs.Reached.{Reached, begin_reached, end_reached, picture_topped, sheet_reached, tally_reached}
@@ -74,8 +76,8 @@ module _ {X : Type 0} (height : X → ℕ) (top : ℕ) (bounded : (x : X) → he
   refused_alike (Load place picture) a low = λ i. load_refusal (g.sum.rack a low i) place (length-map {B = ℕ} (map height picture) (λ x. cond (leb a x) 1 0) i)
   refused_alike (Erode e from to) a low = ap (λ o. make_refusal o from from to) (g.sum.rack a low)
   refused_alike (Dilate e from to) a low = ap (λ o. make_refusal o from from to) (g.sum.rack a low)
-  refused_alike (Open e size from to) a low = ap (λ o. sized_refusal o size from to) (g.sum.rack a low)
-  refused_alike (Close e size from to) a low = ap (λ o. sized_refusal o size from to) (g.sum.rack a low)
+  refused_alike (Open e size from to) a low = ap (λ o. of_size_refusal o size from to) (g.sum.rack a low)
+  refused_alike (Close e size from to) a low = ap (λ o. of_size_refusal o size from to) (g.sum.rack a low)
   refused_alike (Meet one other to) a low = ap (λ o. make_refusal o one other to) (g.sum.rack a low)
   refused_alike (Join one other to) a low = ap (λ o. make_refusal o one other to) (g.sum.rack a low)
   refused_alike (Regrow e marker upper to) a low = ap (λ o. make_refusal o marker upper to) (g.sum.rack a low)
@@ -93,10 +95,10 @@ module _ {X : Type 0} (height : X → ℕ) (top : ℕ) (bounded : (x : X) → he
   refused_alike (ShowTally place len) a low = ap (λ o. show_tally_refusal o place len) (g.sum.slate a low)
 
   -- a sheet made of two places, and a tally made of two sheets so made, where a visit is open and the sources are filled
-  made_goes : (made : Making) → CutMaking made → (one other to : ℕ) → Sources b.rack.outline one other → Goes top start (with_sheet b to (made_of made b one other)) (λ a. with_sheet (bs a) to (made_of made (bs a) one other))
+  made_goes : (made : Making) → CutMaking made → (one other to : ℕ) → Sources b.rack.outline one other → Goes top start (with_sheet b to (made_of made b.rack one other)) (λ a. with_sheet (bs a) to (made_of made (bs a).rack one other))
   made_goes made M one other to src = record {
-    sum = sheet_sum top b bs g.sum to (made_of made b one other) (λ a. made_of made (bs a) one other) (made_cut top b bs g.sum g.reached.held one other src.one_filled src.other_filled made M);
-    reached = sheet_reached top start b g.reached to (made_of made b one other) src.visit
+    sum = sheet_sum top b bs g.sum to (made_of made b.rack one other) (λ a. made_of made (bs a).rack one other) (made_cut top b bs g.sum g.reached.held one other src.one_filled src.other_filled made M);
+    reached = sheet_reached top start b g.reached to (made_of made b.rack one other) src.visit
         (made_sized top b bs g.sum g.reached.held one other src.one_filled src.other_filled made M) (made_of_topped top b bs g.sum g.reached.held one other src.one_filled src.other_filled made M);
   }
 
@@ -108,7 +110,7 @@ module _ {X : Type 0} (height : X → ℕ) (top : ℕ) (bounded : (x : X) → he
   difference_goes more less M L one other to (src, visit) =
       tally_goes to (difference_of more less b one other) (λ a. difference_of more less (bs a) one other)
       (difference_sum top b bs g.sum g.reached.held one other src.one_filled src.other_filled more less M L) visit
-      (difference_within top (made_of more b one other) (made_of less b one other)
+      (difference_within top (made_of more b.rack one other) (made_of less b.rack one other)
       (made_of_topped top b bs g.sum g.reached.held one other src.one_filled src.other_filled more M) (made_of_topped top b bs g.sum g.reached.held one other src.one_filled src.other_filled less L))
 
   -- what every accepted call leaves
@@ -123,8 +125,8 @@ module _ {X : Type 0} (height : X → ℕ) (top : ℕ) (bounded : (x : X) → he
       }
   leaves_goes (Erode e from to) h = made_goes (by_element Erosion (offsets e)) (element_making Erosion e) from from to (make_sources b.rack.outline from from to h)
   leaves_goes (Dilate e from to) h = made_goes (by_element Dilation (offsets e)) (element_making Dilation e) from from to (make_sources b.rack.outline from from to h)
-  leaves_goes (Open e size from to) h = made_goes (opening_by e size) (opening_making e size) from from to (sized_sources b.rack.outline size from to h)
-  leaves_goes (Close e size from to) h = made_goes (closing_by e size) (closing_making e size) from from to (sized_sources b.rack.outline size from to h)
+  leaves_goes (Open e size from to) h = made_goes (opening_by e size) (opening_making e size) from from to (of_size_sources b.rack.outline size from to h)
+  leaves_goes (Close e size from to) h = made_goes (closing_by e size) (closing_making e size) from from to (of_size_sources b.rack.outline size from to h)
   leaves_goes (Meet one other to) h = made_goes (λ w h. met) meet_making one other to (make_sources b.rack.outline one other to h)
   leaves_goes (Join one other to) h = made_goes (λ w h. joined) join_making one other to (make_sources b.rack.outline one other to h)
   leaves_goes (Regrow e marker upper to) h = made_goes (reconstruction_by e) (regrow_making e) marker upper to (make_sources b.rack.outline marker upper to h)
@@ -170,8 +172,8 @@ module _ {X : Type 0} (height : X → ℕ) (top : ℕ) (bounded : (x : X) → he
       (λ a low. sym (λ i. made (g.sum.rack a low i).w (g.sum.rack a low i).h (g.sum.sheets a place low i)))
       (sums (sheet_of b.rack place) (g.reached.held.sized place filled) (g.reached.held.topped place))
 
-  extreme_told : (op : Operation) (place : ℕ) → extreme_of op (sheet_of b.rack place) ≡ sum_to top (λ a. extreme_of op (sheet_of (bs a).rack place))
-  extreme_told op place = extreme_over_cuts op top (sheet_of b.rack place) (g.reached.held.topped place) ∙ over_same ◌+◌ 0 top _ _ (λ a low. ap (extreme_of op) (sym (g.sum.sheets a place low)))
+  extreme_told : (which : Extremum) (place : ℕ) → extreme_of which (sheet_of b.rack place) ≡ sum_to top (λ a. extreme_of which (sheet_of (bs a).rack place))
+  extreme_told which place = extreme_over_cuts which top (sheet_of b.rack place) (g.reached.held.topped place) ∙ over_same ◌+◌ 0 top _ _ (λ a low. ap (extreme_of which) (sym (g.sum.sheets a place low)))
 
   -- what every accepted call tells
   pub told_sum : (c : Call X) → refusal b (in_heights height c) ≡ None → ToldSum top (told_by b (in_heights height c)) (λ a. told_by (bs a) (cut_at height a c))
@@ -198,7 +200,7 @@ module _ {X : Type 0} (height : X → ℕ) (top : ℕ) (bounded : (x : X) → he
     area_over_cuts top (sheet_of b.rack place) (g.reached.held.topped place) ∙ over_same ◌+◌ 0 top _ _ (λ a low. ap area (sym (g.sum.sheets a place low))),
   )
   told_sum (Span place) h =
-      ((λ a. extreme_of_sheet Erosion (bs a) place), (λ a. extreme_of_sheet Dilation (bs a) place), (λ a low. refl), extreme_told Erosion place, extreme_told Dilation place)
+      ((λ a. extreme_of_sheet Minimum (bs a) place), (λ a. extreme_of_sheet Maximum (bs a) place), (λ a low. refl), extreme_told Minimum place, extreme_told Maximum place)
   told_sum (Spectrum e depth place len) h = (
     (λ a. list_of (spectrum_by e depth) (bs a) place),
     (λ a low. refl),

@@ -6,7 +6,8 @@ use Rattle.morphology.specs.declared.operation.Operation.{Operation}
 use Rattle.morphology.specs.declared.operation.Operation.TheVariants.{Erosion, Dilation}
 use Rattle.morphology.specs.Cells.{cut, joined, met}
 use Rattle.morphology.specs.Erosion.{dilated, eroded}
-use Rattle.bench.specs.Calls.{Making, by_element}
+use Rattle.bench.specs.Calls.{Making}
+use Rattle.calls.specs.Made.{by_element}
 use Rattle.operators.specs.Closings.{eroded_inside}
 use Rattle.laws.specs.Closings.{ClosingLaws}
 use Rattle.laws.specs.Maps.{FlatOperator}

@@ -5,20 +5,22 @@ use Rattle.elements.specs.Elements.{offsets}
 use Rattle.limits.specs.declared.fault.Fault.{Fault}
 use Rattle.limits.specs.Faults.{tells, unless}
 use Rattle.elements.specs.declared.element.Element.{Element}
-use Rattle.morphology.specs.declared.operation.Operation.{Operation}
+use Rattle.morphology.specs.declared.extremum.Extremum.{Extremum}
+use Rattle.morphology.specs.declared.extremum.Extremum.TheVariants.{Minimum, Maximum}
 use Rattle.morphology.specs.declared.operation.Operation.TheVariants.{Erosion, Dilation}
 use Rattle.morphology.specs.Cells.{joined, met}
 use Rattle.morphology.specs.Sheets.{area}
 use Rattle.bench.specs.Model.{State, Tally, sheet_of, tally_of}
-use Rattle.bench.specs.Calls.{Making, begin_refusal, by_element, end_refusal, ended, load_refusal, make_refusal, sheet_refusal, stored, visited}
+use Rattle.bench.specs.Calls.{Making, begin_refusal, end_refusal, ended, load_refusal, made_of, make_refusal, sheet_refusal, stored, with_visit}
+use Rattle.calls.specs.Made.{by_element}
 use Rattle.calls.specs.Told.{extreme_spot, show_sheet_refusal, show_tally_refusal}
 use Rattle.operators.specs.Tallies.{differed}
 use Rattle.model.specs.ByElement.{closing_by, opening_by, reconstruction_by, rounds_by, skeleton_by, spectrum_by}
 use Rattle.model.specs.Calls.{Call, Begin, End, Load, Erode, Dilate, Open, Close, Meet, Join, Regrow, Edge, Peak, Valley, Differ, Add, Scale, Area, Span, Spectrum, Skeleton, ShowSheet, ShowTally, Told, NothingTold, SlipTold, RoundsTold, AreaTold, SpanTold, SpectrumTold, SkeletonTold, SheetTold, TallyTold}
 use Rattle.model.specs.ListCalls.{skeleton_refusal, spectrum_refusal}
-use Rattle.model.specs.SheetCalls.{close_refusal, open_refusal}
+use Rattle.model.specs.SheetCalls.{of_size_refusal}
 use Rattle.model.specs.Steps.{Bench, answer, step, telling, with_rack, with_slate}
-use Rattle.model.specs.TallyCalls.{add_refusal, differ_refusal, edge_refusal, peak_refusal, scale_refusal, valley_refusal}
+use Rattle.model.specs.TallyCalls.{add_refusal, difference_refusal, scale_refusal}
 use Rattle.model.specs.Weights.{difference, multiple, sum_of_tallies}
 
 -- of two sheets, the one and the other
@@ -27,10 +29,6 @@ the_first w h f g = f
 
 abbrev pub the_second : Making
 the_second w h f g = g
-
--- what is made of the sheets in two places of a bench
-abbrev pub made_of : Making → Bench → ℕ → ℕ → List ℕ
-made_of made b one other = made b.rack.outline.w b.rack.outline.h (sheet_of b.rack one) (sheet_of b.rack other)
 
 -- the bench with a sheet, or a tally, in a place
 abbrev pub with_sheet : Bench → ℕ → List ℕ → Bench
@@ -41,7 +39,7 @@ with_tally b place tally = with_slate b (stored b.slate place tally)
 
 -- the difference of two sheets that are so made
 abbrev pub difference_of : Making → Making → Bench → ℕ → ℕ → Tally
-difference_of more less b one other = difference (differed (made_of more b one other) (made_of less b one other))
+difference_of more less b one other = difference (differed (made_of more b.rack one other) (made_of less b.rack one other))
 
 abbrev pub refusal : Bench → Call ℕ → Option Fault
 refusal b (Begin flat) = begin_refusal b.rack.outline b.slate.outline flat
@@ -49,15 +47,15 @@ refusal b (End flat) = end_refusal b.rack.outline b.slate.outline flat
 refusal b (Load place picture) = load_refusal b.rack.outline place (length picture)
 refusal b (Erode e from to) = make_refusal b.rack.outline from from to
 refusal b (Dilate e from to) = make_refusal b.rack.outline from from to
-refusal b (Open e size from to) = open_refusal b.rack.outline size from to
-refusal b (Close e size from to) = close_refusal b.rack.outline size from to
+refusal b (Open e size from to) = of_size_refusal b.rack.outline size from to
+refusal b (Close e size from to) = of_size_refusal b.rack.outline size from to
 refusal b (Meet one other to) = make_refusal b.rack.outline one other to
 refusal b (Join one other to) = make_refusal b.rack.outline one other to
 refusal b (Regrow e marker upper to) = make_refusal b.rack.outline marker upper to
-refusal b (Edge e from to) = edge_refusal b.rack.outline b.slate.outline from to
-refusal b (Peak e from to) = peak_refusal b.rack.outline b.slate.outline from to
-refusal b (Valley e from to) = valley_refusal b.rack.outline b.slate.outline from to
-refusal b (Differ one other to) = differ_refusal b.rack.outline b.slate.outline one other to
+refusal b (Edge e from to) = difference_refusal b.rack.outline b.slate.outline from from to
+refusal b (Peak e from to) = difference_refusal b.rack.outline b.slate.outline from from to
+refusal b (Valley e from to) = difference_refusal b.rack.outline b.slate.outline from from to
+refusal b (Differ one other to) = difference_refusal b.rack.outline b.slate.outline one other to
 refusal b (Add one other to) = add_refusal b.slate.outline (sum_of_tallies (tally_of b.slate one) (tally_of b.slate other)) one other to
 refusal b (Scale factor from to) = scale_refusal b.slate.outline (multiple factor (tally_of b.slate from)) factor from to
 refusal b (Area place) = sheet_refusal b.rack.outline place
@@ -68,16 +66,16 @@ refusal b (ShowSheet place len) = show_sheet_refusal b.rack.outline place len
 refusal b (ShowTally place len) = show_tally_refusal b.slate.outline place len
 
 abbrev pub leaves : Bench → Call ℕ → Bench
-leaves b (Begin flat) = record { rack = visited b.rack flat; slate = visited b.slate flat }
+leaves b (Begin flat) = record { rack = with_visit b.rack flat; slate = with_visit b.slate flat }
 leaves b (End flat) = record { rack = ended b.rack; slate = ended b.slate }
 leaves b (Load place picture) = with_sheet b place picture
-leaves b (Erode e from to) = with_sheet b to (made_of (by_element Erosion (offsets e)) b from from)
-leaves b (Dilate e from to) = with_sheet b to (made_of (by_element Dilation (offsets e)) b from from)
-leaves b (Open e size from to) = with_sheet b to (made_of (opening_by e size) b from from)
-leaves b (Close e size from to) = with_sheet b to (made_of (closing_by e size) b from from)
-leaves b (Meet one other to) = with_sheet b to (made_of (λ w h. met) b one other)
-leaves b (Join one other to) = with_sheet b to (made_of (λ w h. joined) b one other)
-leaves b (Regrow e marker upper to) = with_sheet b to (made_of (reconstruction_by e) b marker upper)
+leaves b (Erode e from to) = with_sheet b to (made_of (by_element Erosion (offsets e)) b.rack from from)
+leaves b (Dilate e from to) = with_sheet b to (made_of (by_element Dilation (offsets e)) b.rack from from)
+leaves b (Open e size from to) = with_sheet b to (made_of (opening_by e size) b.rack from from)
+leaves b (Close e size from to) = with_sheet b to (made_of (closing_by e size) b.rack from from)
+leaves b (Meet one other to) = with_sheet b to (made_of (λ w h. met) b.rack one other)
+leaves b (Join one other to) = with_sheet b to (made_of (λ w h. joined) b.rack one other)
+leaves b (Regrow e marker upper to) = with_sheet b to (made_of (reconstruction_by e) b.rack marker upper)
 leaves b (Edge e from to) = with_tally b to (difference_of the_first (by_element Erosion (offsets e)) b from from)
 leaves b (Peak e from to) = with_tally b to (difference_of the_first (opening_by e 1) b from from)
 leaves b (Valley e from to) = with_tally b to (difference_of (closing_by e 1) the_first b from from)
@@ -88,10 +86,10 @@ leaves b call = b
 
 -- what is told of the sheets in places of a bench: the rounds of a reconstruction, a spot, and a list
 abbrev pub rounds_of : Element → Bench → ℕ → ℕ → ℕ
-rounds_of e b marker upper = rounds_by e b.rack.outline.w b.rack.outline.h (sheet_of b.rack marker) (sheet_of b.rack upper)
+rounds_of e b = made_of (rounds_by e) b.rack
 
-abbrev pub extreme_of_sheet : Operation → Bench → ℕ → ℕ × ℕ × ℕ
-extreme_of_sheet op b place = extreme_spot op b.rack.outline.w (sheet_of b.rack place)
+abbrev pub extreme_of_sheet : Extremum → Bench → ℕ → ℕ × ℕ × ℕ
+extreme_of_sheet which b place = extreme_spot which b.rack.outline.w (sheet_of b.rack place)
 
 abbrev pub list_of : (ℕ → ℕ → List ℕ → List ℕ) → Bench → ℕ → List ℕ
 list_of made b place = made b.rack.outline.w b.rack.outline.h (sheet_of b.rack place)
@@ -100,7 +98,7 @@ abbrev pub told_by : Bench → Call ℕ → Told
 told_by b (Begin flat) = SlipTold flat
 told_by b (Regrow e marker upper to) = RoundsTold (rounds_of e b marker upper)
 told_by b (Area place) = AreaTold (area (sheet_of b.rack place))
-told_by b (Span place) = SpanTold (extreme_of_sheet Erosion b place) (extreme_of_sheet Dilation b place)
+told_by b (Span place) = SpanTold (extreme_of_sheet Minimum b place) (extreme_of_sheet Maximum b place)
 told_by b (Spectrum e depth place len) = SpectrumTold (list_of (spectrum_by e depth) b place)
 told_by b (Skeleton e depth place len) = SkeletonTold (list_of (skeleton_by e depth) b place)
 told_by b (ShowSheet place len) = SheetTold (sheet_of b.rack place)
@@ -126,7 +124,7 @@ module _ (b : Bench) where
   same_part (Some fault) = refl
 
   pub step_parts : (c : Call ℕ) → step b c ≡ unless (refusal b c) (leaves b c) b
-  step_parts (Begin flat) = both_parts (refusal b (Begin flat)) (visited b.rack flat) (visited b.slate flat)
+  step_parts (Begin flat) = both_parts (refusal b (Begin flat)) (with_visit b.rack flat) (with_visit b.slate flat)
   step_parts (End flat) = both_parts (refusal b (End flat)) (ended b.rack) (ended b.slate)
   step_parts (Load place picture) = rack_part (refusal b (Load place picture)) (leaves b (Load place picture)).rack
   step_parts (Erode e from to) = rack_part (refusal b (Erode e from to)) (leaves b (Erode e from to)).rack
@@ -156,7 +154,7 @@ module _ (b : Bench) where
   pub answer_parts : (c : Call ℕ) → answer b c ≡ tells (refusal b c) (told_by b c)
   answer_parts (Regrow e marker upper to) = tells_part RoundsTold (refusal b (Regrow e marker upper to)) (rounds_of e b marker upper)
   answer_parts (Area place) = tells_part AreaTold (refusal b (Area place)) (area (sheet_of b.rack place))
-  answer_parts (Span place) = tells_part (λ spots. SpanTold spots.0 spots.1) (refusal b (Span place)) (extreme_of_sheet Erosion b place, extreme_of_sheet Dilation b place)
+  answer_parts (Span place) = tells_part (λ spots. SpanTold spots.0 spots.1) (refusal b (Span place)) (extreme_of_sheet Minimum b place, extreme_of_sheet Maximum b place)
   answer_parts (Spectrum e depth place len) = tells_part SpectrumTold (refusal b (Spectrum e depth place len)) (list_of (spectrum_by e depth) b place)
   answer_parts (Skeleton e depth place len) = tells_part SkeletonTold (refusal b (Skeleton e depth place len)) (list_of (skeleton_by e depth) b place)
   answer_parts call = refl

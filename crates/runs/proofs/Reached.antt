@@ -4,7 +4,8 @@ use Rattle.model.specs.Weights.{WithinWeight}
 use Rattle.std.proofs.Common.{Bool, false, cond, eqb, unwrap_or, ◌≡◌, ℕ, ◌*◌, ◌≤◌, true, List, [], ◌∷◌, zero, suc, map, length, is_some, Some, None, Option, sym, refl, ap, arith}
 use Rattle.std.proofs.lemmas.Bool.{false≢true}
 use Rattle.bench.specs.Model.{State, Tally, tally_of}
-use Rattle.bench.specs.Calls.{ended, opened, stored, visited}
+use Rattle.bench.specs.declared.visit.Visit.{Visit}
+use Rattle.bench.specs.Calls.{ended, opened, stored, with_visit}
 use Rattle.laws.specs.Sums.{HeightsAtMost}
 use Rattle.model.specs.Steps.{Bench}
 use Rattle.runs.proofs.Parts.{with_sheet, with_tally}
@@ -37,7 +38,7 @@ stored_filled s k c filled j = at (eqb j k)
 pub none_within : (top : ℕ) → WithinWeight top (record { cells = []; weight = 0 })
 none_within top = record { weight = omega arith; cells = λ k. omega arith }
 
-closed_open : {T : Type 0} (visit : Option ℕ) → is_some visit ≡ true → visit ≡ None → T
+closed_open : {T : Type 0} (visit : Option Visit) → is_some visit ≡ true → visit ≡ None → T
 closed_open None some closed = absurd (false≢true some)
 closed_open (Some flat) some closed = absurd (false≢true (sym (ap is_some closed)))
 
@@ -70,12 +71,12 @@ module _ (top : ℕ) (start b : Bench) (r : Reached top start b) where
       at true j = within
       at false j = r.tallies j
 
-  pub begin_reached : (flat : ℕ) → Reached top start (record { rack = visited b.rack flat; slate = visited b.slate flat })
+  pub begin_reached : (flat : ℕ) → Reached top start (record { rack = with_visit b.rack flat; slate = with_visit b.slate flat })
   begin_reached flat = record {
     rack_sizes = r.rack_sizes;
     slate_sizes = r.slate_sizes;
-    rack_closed = λ closed. closed_open (Some flat) refl closed;
-    slate_closed = λ closed. closed_open (Some flat) refl closed;
+    rack_closed = λ closed. closed_open (Some (record { flat = flat })) refl closed;
+    slate_closed = λ closed. closed_open (Some (record { flat = flat })) refl closed;
     held = record { sized = r.held.sized; topped = r.held.topped };
     tallies = r.tallies;
     rack_filled = r.rack_filled;

@@ -8,7 +8,7 @@ use Rattle.limits.specs.Sizes.{lawful_side, lawful_size}
 use Rattle.bench.specs.Model.{sheet_of}
 use Rattle.bench.specs.Calls.{begin_refusal}
 use Rattle.operators.specs.Maps.{times}
-use Rattle.operators.specs.Restoring.{answer_list, rebuilt, restored, written}
+use Rattle.operators.specs.Restoring.{answer_list, rebuilt, restored, left_in_list}
 use Rattle.operators.specs.Skeletons.{skeleton}
 use Rattle.operators.specs.Spectra.{spectrum}
 use Rattle.laws.specs.Sums.{HeightsAtMost}
@@ -68,7 +68,7 @@ module _ {X : Type 0} (height : X → ℕ) (top : ℕ) (bounded : (x : X) → he
       (none_refused (lawful_size depth && leb size depth) _ _ (rw (listed.lawful, le-leb size depth within) refl)
       (none_refused (eqb (length pieces) ((depth + 1) * (w * h))) _ _ (eq-eqb _ _ count)
       (rw (built, none_above top (times size (shrink e w h) f) topped low) refl)))) in
-      (none, ap (λ r. written r (restored (swell e w h) (w * h) depth size pieces) answer_was) none ∙ ap (times size (swell e w h)) built)
+      (none, ap (λ r. left_in_list r (restored (swell e w h) (w * h) depth size pieces) answer_was) none ∙ ap (times size (swell e w h)) built)
 
   pub skeletons_tell : top ≤ 65536 → SkeletonsTellSheets height
   skeletons_tell low o p calls others e depth place other len pieces wide tall one two =

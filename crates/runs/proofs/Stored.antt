@@ -3,13 +3,13 @@ use Rattle.std.proofs.Common.{◌≡◌, ℕ, ◌*◌, ◌≤◌, Bool, true, fa
 use Rattle.std.proofs.lemmas.Bool.{false≢true}
 use Rattle.morphology.specs.Cells.{cut}
 use Rattle.bench.specs.Model.{State, Tally, sheet_of, tally_of}
-use Rattle.bench.specs.Calls.{Making, ended, opened, stored, visited}
+use Rattle.bench.specs.Calls.{Making, ended, made_of, opened, stored, with_visit}
 use Rattle.laws.specs.Sums.{HeightsAtMost}
 use Rattle.operators.specs.Tallies.{differed}
 use Rattle.laws.proofs.Sums.{list_fold_none, list_fold_same}
 use Rattle.laws.proofs.SumsOfCuts.{differed_over_cuts}
 use Rattle.model.specs.Steps.{Bench}
-use Rattle.runs.proofs.Parts.{difference_of, made_of, with_sheet, with_tally}
+use Rattle.runs.proofs.Parts.{difference_of, with_sheet, with_tally}
 use Rattle.runs.specs.Sums.{BenchSum, TallySum}
 use Rattle.runs.proofs.Makings.{CutMaking, made_topped}
 
@@ -90,10 +90,10 @@ module _ (top : ℕ) (b : Bench) (bs : ℕ → Bench) (s : BenchSum top b bs) wh
       at true j = sums
       at false j = s.tallies j
 
-  pub begin_sum : (flat : ℕ) → BenchSum top (record { rack = visited b.rack flat; slate = visited b.slate flat }) (λ a. record { rack = visited (bs a).rack flat; slate = visited (bs a).slate flat })
+  pub begin_sum : (flat : ℕ) → BenchSum top (record { rack = with_visit b.rack flat; slate = with_visit b.slate flat }) (λ a. record { rack = with_visit (bs a).rack flat; slate = with_visit (bs a).slate flat })
   begin_sum flat = record {
-    rack = λ a low. ap (λ o. (visited {C = List ℕ} (record { outline = o; content = λ j. None }) flat).outline) (s.rack a low);
-    slate = λ a low. ap (λ o. (visited {C = Tally} (record { outline = o; content = λ j. None }) flat).outline) (s.slate a low);
+    rack = λ a low. ap (λ o. (with_visit {C = List ℕ} (record { outline = o; content = λ j. None }) flat).outline) (s.rack a low);
+    slate = λ a low. ap (λ o. (with_visit {C = Tally} (record { outline = o; content = λ j. None }) flat).outline) (s.slate a low);
     sheets = s.sheets;
     tallies = s.tallies;
   }
@@ -109,13 +109,13 @@ module _ (top : ℕ) (b : Bench) (bs : ℕ → Bench) (s : BenchSum top b bs) wh
   module _ (held : SheetsHeld top b.rack) (one other : ℕ) (one_filled : b.rack.outline.filled one ≡ true) (other_filled : b.rack.outline.filled other ≡ true) where
     -- what is made of two filled places
     module _ (made : Making) (M : CutMaking made) where
-      pub made_sized : length (made_of made b one other) ≡ b.rack.outline.w * b.rack.outline.h
+      pub made_sized : length (made_of made b.rack one other) ≡ b.rack.outline.w * b.rack.outline.h
       made_sized = M.sheet b.rack.outline.w b.rack.outline.h (sheet_of b.rack one) (sheet_of b.rack other) (held.sized one one_filled) (held.sized other other_filled)
 
-      pub made_of_topped : HeightsAtMost top (made_of made b one other)
+      pub made_of_topped : HeightsAtMost top (made_of made b.rack one other)
       made_of_topped = made_topped made M top b.rack.outline.w b.rack.outline.h (sheet_of b.rack one) (sheet_of b.rack other) (held.sized one one_filled) (held.sized other other_filled) (held.topped one) (held.topped other)
 
-      pub made_cut : (a : ℕ) → 1 ≤ a → made_of made (bs a) one other ≡ cut a (made_of made b one other)
+      pub made_cut : (a : ℕ) → 1 ≤ a → made_of made (bs a).rack one other ≡ cut a (made_of made b.rack one other)
       made_cut a low =
           (λ i. made (s.rack a low i).w (s.rack a low i).h (s.sheets a one low i) (s.sheets a other low i))
           ∙ M.cuts b.rack.outline.w b.rack.outline.h a (sheet_of b.rack one) (sheet_of b.rack other) low (held.sized one one_filled) (held.sized other other_filled)
@@ -126,5 +126,5 @@ module _ (top : ℕ) (b : Bench) (bs : ℕ → Bench) (s : BenchSum top b bs) wh
       weight = λ a low. refl;
       cells = list_fold_same ◌+ℤ◌ (pos 0) top _ _ _
           (λ a low. (λ i. differed (sym (made_cut more M a low) i) (sym (made_cut less L a low) i)))
-          (differed_over_cuts top (made_of more b one other) (made_of less b one other) (made_of_topped more M) (made_of_topped less L));
+          (differed_over_cuts top (made_of more b.rack one other) (made_of less b.rack one other) (made_of_topped more M) (made_of_topped less L));
     }

@@ -5,8 +5,9 @@ use Rattle.limits.specs.declared.fault.Fault.{Fault}
 use Rattle.limits.specs.declared.fault.Fault.TheVariants.{Side, Places, Memory, Length, SheetPlace, TallyPlace, SizeOrDepth, ListLength, FactorOrHeight, BuiltIn, Flat, RestoreCell, NoVisit, VisitOpen, OtherFlat, EmptySheet, EmptyTally, Weight, Unequal}
 use Rattle.limits.specs.Faults.{fault_number}
 use Rattle.limits.specs.Sizes.{lawful_flat, lawful_size, lawful_factor}
-use Rattle.bench.specs.Model.{Outline, State, Tally, is_place, tally_of}
-use Rattle.bench.specs.Calls.{equal_benches, same_visit}
+use Rattle.bench.specs.Model.{Outline, State, Tally, flat_of, is_place, tally_of}
+use Rattle.bench.specs.declared.visit.Visit.{Visit}
+use Rattle.bench.specs.Calls.{equal_benches, same_flat}
 use Rattle.model.specs.Calls.{Call, Told, Begin, End, Load, Erode, Dilate, Open, Close, Meet, Join, Regrow, Edge, Peak, Valley, Differ, Add, Scale, Area, Span, Spectrum, Skeleton, ShowSheet, ShowTally}
 use Rattle.model.specs.Weights.{lawful_weight, multiple, sum_of_tallies}
 use Rattle.model.specs.Steps.{Bench, answer, step}
@@ -86,7 +87,7 @@ flats_ended (End flat) = flat ∷ []
 flats_ended call = []
 
 -- the visit that has to be open: on the slate for calls on tallies alone, and for others on the rack
-abbrev pub visits_needed : Outline → Outline → Call ℕ → List (Option ℕ)
+abbrev pub visits_needed : Outline → Outline → Call ℕ → List (Option Visit)
 visits_needed rack slate (Begin flat) = []
 visits_needed rack slate (Add one other to) = slate.visit ∷ []
 visits_needed rack slate (Scale factor from to) = slate.visit ∷ []
@@ -141,7 +142,7 @@ applies rack slate call NoVisit = fails is_some (visits_needed rack.outline slat
 -- a visit would begin while one is open on the rack or on the slate
 applies rack slate call VisitOpen = list_any (λ flat. is_some rack.outline.visit || is_some slate.outline.visit) (flats_begun call)
 -- the slip is not of the flat of the open visit
-applies rack slate call OtherFlat = fails (λ flat. same_visit rack.outline.visit (Some flat)) (flats_ended call)
+applies rack slate call OtherFlat = fails (λ flat. same_flat (flat_of rack.outline.visit) (Some flat)) (flats_ended call)
 -- a sheet place that is read is empty
 applies rack slate call EmptySheet = fails rack.outline.filled (sheets_read call)
 -- a tally place that is read is empty

@@ -59,6 +59,7 @@ fn command_on(line: &[u8]) -> Result<Command, Misfit>
     let Some((letter, _)) = line.split_first() else {
         return Err(Misfit { place: 0 });
     };
+    // A match: the letters are the format.
     match char::from(*letter) {
         'V' => {
             let [flat] = numbers::<1>(line)?;

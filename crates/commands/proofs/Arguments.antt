@@ -4,17 +4,17 @@ use Rattle.std.proofs.Math.ListN.{replicate}
 use Rattle.std.proofs.lemmas.List.{length-replicate, length-set, take_all, take_more_set}
 use Rattle.std.proofs.lemmas.Bool.{cond-true, cond-false, le-leb, lt-leb}
 use Rattle.text.specs.declared.Misfit.{Misfit}
-use Rattle.text.specs.Forms.{Reading, before, scan, number}
+use Rattle.text.specs.Forms.{NumbersRead, before, scan, number}
 use Rattle.text.specs.Pieces.{fixed_at, number_at}
 use Rattle.text.proofs.Forms.{scan_fixed, scan_fixed_refused, scan_number, scan_number_refused}
 use Rattle.commands.specs.Reading.{arguments}
 
 -- numbers read before the others
-abbrev pub all_before : List ℕ → Result Reading Misfit → Result Reading Misfit
+abbrev pub all_before : List ℕ → Result NumbersRead Misfit → Result NumbersRead Misfit
 all_before [] r = r
 all_before (n ∷ ns) r = before n (all_before ns r)
 
-one_more_before : (ns : List ℕ) (n : ℕ) (r : Result Reading Misfit) → all_before (ns ++ n ∷ []) r ≡ all_before ns (before n r)
+one_more_before : (ns : List ℕ) (n : ℕ) (r : Result NumbersRead Misfit) → all_before (ns ++ n ∷ []) r ≡ all_before ns (before n r)
 one_more_before [] n r = refl
 one_more_before (m ∷ ns) n r = ap (before m) (one_more_before ns n r)
 
@@ -36,7 +36,7 @@ none_read n line = record { long = length-replicate n 0; scans = ap (λ (k : ℕ
 
 module _ {n i : ℕ} {numbers line : List ℕ} {at : ℕ} (so_far : ReadsOn n i numbers line at) where
   -- where a number is still to come, how it reads decides
-  decided : (r : Result Reading Misfit) → i < n → scan (arguments (suc (n - (i + 1)))) line at ≡ r
+  decided : (r : Result NumbersRead Misfit) → i < n → scan (arguments (suc (n - (i + 1)))) line at ≡ r
       → scan (arguments n) line 1 ≡ all_before (take i numbers) r
   decided r more on =
       so_far.scans
@@ -70,7 +70,7 @@ module _ {n i : ℕ} {numbers line : List ℕ} {at : ℕ} (so_far : ReadsOn n i 
       }
 
   -- after the last number the line's end decides
-  ended : (r : Result Reading Misfit) → n ≤ i → scan (arguments 0) line at ≡ r → scan (arguments n) line 1 ≡ all_before numbers r
+  ended : (r : Result NumbersRead Misfit) → n ≤ i → scan (arguments 0) line at ≡ r → scan (arguments n) line 1 ≡ all_before numbers r
   ended r all on =
       so_far.scans
       ∙ (ap (λ (ns : List ℕ). all_before ns (scan (arguments (n - i)) line at)) (take_all i numbers (omega (arith, so_far.long)))

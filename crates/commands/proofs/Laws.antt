@@ -4,15 +4,14 @@ use Rattle.std.proofs.lemmas.List.{append-nil, get_or-take, nil_from_length}
 use Rattle.std.proofs.lemmas.Result.{MatchResult-at_ok, MatchResult-at_err}
 use Rattle.std.proofs.lemmas.Bool.{cond_both, eqb-true}
 use Rattle.text.specs.declared.Misfit.{Misfit}
-use Rattle.text.specs.Forms as forms
-use Rattle.text.specs.Forms.{Takes, OfForm, Reading, scan}
+use Rattle.text.specs.Forms.{Takes, OfForm, NumbersRead, scan, written}
 use Rattle.text.specs.Misfits.{FirstMisfit}
 use Rattle.text.proofs.Forms.{Clear, reads_back, reads_what_was_written, refuses_at_first_misfit}
 use Rattle.text.proofs.Misfits.{misfit_at_once, misfit_after}
 use Rattle.commands.specs.declared.Command.{Command}
 use Rattle.commands.specs.declared.Command.TheVariants.{Begin, Load, Erode, Dilate, Area, End}
-use Rattle.commands.specs.Lines.{letter, numbers, spaced, written, AllInRange, InRange, Lawful}
-use Rattle.commands.specs.Reading.{arguments, Kind, one, two, kind, made, made_by, command_on_lem, by_column, read, ReadsBackLines, ReadsOnlyLines, RefusesLinesAtMisfit}
+use Rattle.commands.specs.Lines.{letter, numbers, spaced, command_text, AllInRange, InRange, Lawful}
+use Rattle.commands.specs.Reading.{arguments, Kind, one, two, kind, made, made_by, command_or_misfit, by_column, read, ReadsBackLines, ReadsOnlyLines, RefusesLinesAtMisfit}
 
 clear : (count : ℕ) → Clear (arguments count)
 clear zero = tt
@@ -20,7 +19,7 @@ clear (suc zero) = (omega arith, tt, tt)
 clear (suc (suc count)) = (omega arith, refl, clear (suc count))
 
 -- what the form of so many arguments writes, and what it takes
-same_text : (ns : List ℕ) → forms.written (arguments (length ns)) ns ≡ spaced ns
+same_text : (ns : List ℕ) → written (arguments (length ns)) ns ≡ spaced ns
 same_text [] = refl
 same_text (n ∷ ns) = ap (λ (t : List ℕ). 32 ∷ (decimal n ++ t)) (same_text ns)
 
@@ -98,16 +97,16 @@ kind_of (Area place) = (one Area, record { is = refl; count = refl; made_of = re
 kind_of End = (record { count = 0; make = λ _. End }, record { is = refl; count = refl; made_of = refl })
 
 -- the form of a kind's arguments, after its letter, is that of its commands' lines
-of_numbers : (count : ℕ) (ns : List ℕ) → count ≡ length ns → forms.written (arguments count) ns ++ [] ≡ spaced ns
-of_numbers count ns long = append-nil _ ∙ (ap (λ (k : ℕ). forms.written (arguments k) ns) long ∙ same_text ns)
+of_numbers : (count : ℕ) (ns : List ℕ) → count ≡ length ns → written (arguments count) ns ++ [] ≡ spaced ns
+of_numbers count ns long = append-nil _ ∙ (ap (λ (k : ℕ). written (arguments k) ns) long ∙ same_text ns)
 
 line_of_arguments : (l : ℕ) (k : Kind) → Makes l k → (text : List ℕ) (o : OfForm (arguments k.count) text)
-    → (l ∷ text ≡ written (k.make o.numbers)) × InRange (k.make o.numbers)
+    → (l ∷ text ≡ command_text (k.make o.numbers)) × InRange (k.make o.numbers)
 line_of_arguments l k m text o =
     let line = in_range_taken k.count o.numbers o.rest o.takes in
     let same : numbers (k.make o.numbers) ≡ o.numbers = m.same_numbers o.numbers line.long in
     let spelled : text ≡ spaced o.numbers =
-    o.same ∙ (ap (λ (t : List ℕ). forms.written (arguments k.count) o.numbers ++ t) line.ends ∙ of_numbers k.count o.numbers (sym line.long)) in (
+    o.same ∙ (ap (λ (t : List ℕ). written (arguments k.count) o.numbers ++ t) line.ends ∙ of_numbers k.count o.numbers (sym line.long)) in (
       ap (λ (t : List ℕ). l ∷ t) (spelled ∙ ap spaced (sym same)) ∙ ap (λ (b : ℕ). b ∷ spaced (numbers (k.make o.numbers))) (sym (m.same_letter o.numbers)),
       subst AllInRange (sym same) line.range,
     )
@@ -130,13 +129,13 @@ arguments_of_line l k is text (command, range, same) =
 
 -- what holds of a command that was read, and of a place that was refused
 abbrev Read : List ℕ → Command → Type 0
-Read line command = (line ≡ written command) × InRange command
+Read line command = (line ≡ command_text command) × InRange command
 
 abbrev Misfits : List ℕ → Misfit → Type 0
 Misfits line misfit = FirstMisfit Lawful line misfit.place
 
 no_kind : (line : List ℕ) → kind (get_or line 0 0) ≡ None → FirstMisfit Lawful line 0
-no_kind line none = misfit_at_once Lawful (written End) (End, tt, refl) line apart
+no_kind line none = misfit_at_once Lawful (command_text End) (End, tt, refl) line apart
   where
     apart : (other : List ℕ) → Lawful other → take 1 other ≡ take 1 line → ⊥
     apart other (command, range, same) start =
@@ -146,7 +145,7 @@ no_kind line none = misfit_at_once Lawful (written End) (End, tt, refl) line apa
         let never : ◌≡◌ {A = Option Kind} None (Some (kind_of command).0) = sym none ∙ (ap kind first ∙ of.is) in
         let z : ◌≡◌ {A = ℕ} 0 1 = cc in omega arith
 
-some_kind : (l : ℕ) (text : List ℕ) (k : Kind) → kind l ≡ Some k → (r : Result Reading Misfit)
+some_kind : (l : ℕ) (text : List ℕ) (k : Kind) → kind l ≡ Some k → (r : Result NumbersRead Misfit)
     → scan (arguments k.count) (l ∷ text) 1 ≡ r → MatchResult (made k r) (Read (l ∷ text)) (Misfits (l ∷ text))
 some_kind l text k is (Ok reading) answer =
     let was = reads_what_was_written (arguments k.count) (l ∷ text) 1 reading (clear k.count) (omega arith) answer in
@@ -169,16 +168,17 @@ from_one : (line : List ℕ) (r : Result Command Misfit) → MatchResult r (Read
 from_one line (Ok command) holds = holds
 from_one line (Err misfit) holds = (omega arith, subst (FirstMisfit Lawful line) (omega arith) holds)
 
-told : (line : List ℕ)
+-- what a line reads as is its command, or its first misfit
+read_or_first_misfit : (line : List ℕ)
     → MatchResult (read line) (Read line) (λ fault. (1 ≤ fault.column) × FirstMisfit Lawful line (fault.column - 1))
-told line = from_one line (command_on_lem line) (by_kind line (kind (get_or line 0 0)) refl)
+read_or_first_misfit line = from_one line (command_or_misfit line) (by_kind line (kind (get_or line 0 0)) refl)
 
 pub reads_only_lines : ReadsOnlyLines
-reads_only_lines line command answer = MatchResult-at_ok (Read line) _ command answer (told line)
+reads_only_lines line command answer = MatchResult-at_ok (Read line) _ command answer (read_or_first_misfit line)
 
 pub refuses_lines_at_misfit : RefusesLinesAtMisfit
 refuses_lines_at_misfit line fault answer =
-    MatchResult-at_err (Read line) (λ f. (1 ≤ f.column) × FirstMisfit Lawful line (f.column - 1)) fault answer (told line)
+    MatchResult-at_err (Read line) (λ f. (1 ≤ f.column) × FirstMisfit Lawful line (f.column - 1)) fault answer (read_or_first_misfit line)
 
 pub reads_back_lines : ReadsBackLines
 reads_back_lines command range =
@@ -186,6 +186,6 @@ reads_back_lines command range =
     let of = (kind_of command).1 in
     let ns : List ℕ = numbers command in
     let takes : Takes (arguments k.count) ns [] = subst (λ (n : ℕ). Takes (arguments n) ns []) (sym of.count) (takes_in_range ns range) in
-    let scanned = reads_back (arguments k.count) ns [] (written command) 1 (clear k.count) takes (omega arith) (sym (of_numbers k.count ns of.count)) in
-    ap (λ (o : Option Kind). by_column (made_by o (written command))) of.is
-    ∙ (ap (λ (r : Result Reading Misfit). by_column (made k r)) scanned ∙ ap Ok of.made_of)
+    let scanned = reads_back (arguments k.count) ns [] (command_text command) 1 (clear k.count) takes (omega arith) (sym (of_numbers k.count ns of.count)) in
+    ap (λ (o : Option Kind). by_column (made_by o (command_text command))) of.is
+    ∙ (ap (λ (r : Result NumbersRead Misfit). by_column (made k r)) scanned ∙ ap Ok of.made_of)

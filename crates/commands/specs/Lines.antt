@@ -3,6 +3,7 @@ use Rattle.std.specs.Prelude.{◌≡◌, ℕ, ◌≤◌, List, [], ◌∷◌, �
 use Rattle.commands.specs.declared.Command.{Command}
 use Rattle.commands.specs.declared.Command.TheVariants.{Begin, Load, Erode, Dilate, Area, End}
 
+-- the letter of a command: V, L, E, D, A or X
 abbrev pub letter : Command → ℕ
 letter (Begin flat) = 86
 letter (Load place) = 76
@@ -11,6 +12,7 @@ letter (Dilate from to) = 68
 letter (Area place) = 65
 letter End = 88
 
+-- the numbers of a command, in the order of its line
 abbrev pub numbers : Command → List ℕ
 numbers (Begin flat) = flat ∷ []
 numbers (Load place) = place ∷ []
@@ -24,17 +26,19 @@ abbrev pub spaced : List ℕ → List ℕ
 spaced [] = []
 spaced (n ∷ ns) = 32 ∷ (decimal n ++ spaced ns)
 
-abbrev pub written : Command → List ℕ
-written command = letter command ∷ spaced (numbers command)
+-- the line of a command
+abbrev pub command_text : Command → List ℕ
+command_text command = letter command ∷ spaced (numbers command)
 
+-- each of the numbers is one that a line can hold
 abbrev pub AllInRange : List ℕ → Type 0
 AllInRange [] = Unit {0}
 AllInRange (n ∷ ns) = (n ≤ 9999) × AllInRange ns
 
--- the numbers are ones that a line can hold
+-- the command's numbers are all such
 abbrev pub InRange : Command → Type 0
 InRange command = AllInRange (numbers command)
 
 -- the lines of commands
 abbrev pub Lawful : List ℕ → Type 0
-Lawful line = (command : Command) × InRange command × (line ≡ written command)
+Lawful line = (command : Command) × InRange command × (line ≡ command_text command)

@@ -1,13 +1,13 @@
 -- How a line is read, and what holds of that for every line.
 use Rattle.std.specs.Prelude.{◌≡◌, ℕ, zero, suc, ◌+◌, ◌-◌, ◌≤◌, cond, List, [], ◌∷◌, length, Some, None, Ok, Err, Option, Result, MatchResult, ◌==◌, slice_index}
 use Rattle.text.specs.declared.Misfit.{Misfit}
-use Rattle.text.specs.Forms.{Form, nothing, fixed, number, Reading, scan}
+use Rattle.text.specs.Forms.{Form, nothing, fixed, number, NumbersRead, scan}
 use Rattle.text.specs.Misfits.{FirstMisfit}
 use Rattle.text.specs.Pieces.{refused_at}
 use Rattle.commands.specs.declared.Command.{Command}
 use Rattle.commands.specs.declared.Command.TheVariants.{Begin, Load, Erode, Dilate, Area, End}
 use Rattle.commands.specs.declared.LineFault.{LineFault}
-use Rattle.commands.specs.Lines.{written, InRange, Lawful}
+use Rattle.commands.specs.Lines.{command_text, InRange, Lawful}
 
 -- what follows the letter of a command with so many numbers
 abbrev pub arguments : ℕ → Form
@@ -25,9 +25,11 @@ pub record Kind : Type 0 where
   pub count : ℕ
   pub make : List ℕ → Command
 
+-- a kind of command with one number
 abbrev pub one : (ℕ → Command) → Kind
 one make = record { count = 1; make = λ ns. make (slice_index ns 0) }
 
+-- a kind of command with two numbers
 abbrev pub two : (ℕ → ℕ → Command) → Kind
 two make = record { count = 2; make = λ ns. make (slice_index ns 0) (slice_index ns 1) }
 
@@ -43,17 +45,18 @@ kind l =
     None)))))
 
 -- the command of what was read after its letter
-abbrev pub made : Kind → Result Reading Misfit → Result Command Misfit
+abbrev pub made : Kind → Result NumbersRead Misfit → Result Command Misfit
 made k (Ok reading) = Ok (k.make reading.numbers)
 made k (Err misfit) = Err misfit
 
+-- the command that a line of this kind tells; a letter of no kind is the first misfit
 abbrev pub made_by : Option Kind → List ℕ → Result Command Misfit
 made_by None line = refused_at 0
 made_by (Some k) line = made k (scan (arguments k.count) line 1)
 
 -- the command on a line, or the place of the first misfit, from 0
-abbrev pub command_on_lem : List ℕ → Result Command Misfit
-command_on_lem line = made_by (kind (slice_index line 0)) line
+abbrev pub command_or_misfit : List ℕ → Result Command Misfit
+command_or_misfit line = made_by (kind (slice_index line 0)) line
 
 -- columns count from 1
 abbrev pub by_column : Result Command Misfit → Result Command LineFault
@@ -62,16 +65,16 @@ by_column (Err misfit) = Err (record { column = misfit.place + 1 })
 
 -- what a line reads as
 abbrev pub read : List ℕ → Result Command LineFault
-read line = by_column (command_on_lem line)
+read line = by_column (command_or_misfit line)
 
 -- every command is read back from its line
 abbrev pub ReadsBackLines : Type 0
-ReadsBackLines = (command : Command) → InRange command → read (written command) ≡ Ok command
+ReadsBackLines = (command : Command) → InRange command → read (command_text command) ≡ Ok command
 
 -- what is read as a command is exactly that command's line
 abbrev pub ReadsOnlyLines : Type 0
 ReadsOnlyLines =
-    (line : List ℕ) (command : Command) → read line ≡ Ok command → (line ≡ written command) × InRange command
+    (line : List ℕ) (command : Command) → read line ≡ Ok command → (line ≡ command_text command) × InRange command
 
 -- any other line is refused at its first misfit
 abbrev pub RefusesLinesAtMisfit : Type 0

@@ -2,7 +2,7 @@
 #![tactic(auto)]
 
 ghost use Rattle.std.specs.Prelude.{◌≡◌, ◌≤◌, length, IfErr, MatchResult};
-ghost use Rattle.commands.specs.Reading.{command_on_lem, read, TellsArguments, ReadsBackLines, ReadsOnlyLines, RefusesLinesAtMisfit};
+ghost use Rattle.commands.specs.Reading.{command_or_misfit, read, TellsArguments, ReadsBackLines, ReadsOnlyLines, RefusesLinesAtMisfit};
 
 use text::{Misfit, Scanner};
 
@@ -30,7 +30,7 @@ pub struct LineFault {
 }
 
 impl LineFault {
-    /// The number of this refusal.
+    /// The refusal's number, 22.
     pub fn number(self) -> u32
         ensures { result ≡ 22 }
     {
@@ -53,32 +53,35 @@ pub fn read_line(line: &[u8]) -> Result<Command, LineFault>
 
 // The command on a line, or the place of the line's first misfit.
 fn command_on(line: &[u8]) -> Result<Command, Misfit>
-    ensures answers { result ≡ command_on_lem line.now }
+    ensures answers { result ≡ command_or_misfit line.now }
     ensures within { IfErr result (λ misfit. misfit.place ≤ length line.now) }
 {
+    let Some((letter, _)) = line.split_first() else {
+        return Err(Misfit { place: 0 });
+    };
     // A match: the letters are the format.
-    match line {
-        [b'V', ..] => {
+    match char::from(*letter) {
+        'V' => {
             let [flat] = numbers::<1>(line)?;
             Ok(Command::Begin { flat })
         }
-        [b'L', ..] => {
+        'L' => {
             let [place] = numbers::<1>(line)?;
             Ok(Command::Load { place })
         }
-        [b'E', ..] => {
+        'E' => {
             let [from, to] = numbers::<2>(line)?;
             Ok(Command::Erode { from, to })
         }
-        [b'D', ..] => {
+        'D' => {
             let [from, to] = numbers::<2>(line)?;
             Ok(Command::Dilate { from, to })
         }
-        [b'A', ..] => {
+        'A' => {
             let [place] = numbers::<1>(line)?;
             Ok(Command::Area { place })
         }
-        [b'X', ..] => {
+        'X' => {
             let [] = numbers::<0>(line)?;
             Ok(Command::End)
         }

@@ -4,8 +4,8 @@ pub mod Elements
 pub mod Members
 pub mod Walks
 pub mod Records
-pub mod Readings
+pub mod CardReadings
 pub mod Outcomes
-pub mod Told
+pub mod ChainOrRefusal
 pub mod ReadBack
 pub mod WrittenRecords

@@ -6,14 +6,14 @@ use Rattle.elements.specs.Cards.{card_flags}
 use Rattle.elements.specs.Chains.{visited}
 use Rattle.elements.specs.Written.{WrittenCardsReadBack}
 use Rattle.elements.proofs.Flags.{same_flags}
-use Rattle.elements.proofs.Told.{Told, told}
+use Rattle.elements.proofs.ChainOrRefusal.{ChainOrRefusal, chain_or_refusal}
 use Rattle.elements.proofs.Walks.{leads_once}
 
 -- A card has one chain alone, so the flags to which it comes are those of the element.
 pub written_cards_read_back : WrittenCardsReadBack
-written_cards_read_back e card c = by_outcome (card_flags card) (told card)
+written_cards_read_back e card c = by_outcome (card_flags card) (chain_or_refusal card)
   where
-    by_outcome : (r : Result (List Bool) CardFault) → Told card r → r ≡ Ok e.flags
+    by_outcome : (r : Result (List Bool) CardFault) → ChainOrRefusal card r → r ≡ Ok e.flags
     by_outcome (Err f) (r, none) = absurd (none c.order c.chain)
     by_outcome (Ok flags) (square, (ns, chain, same, long)) =
         let one : ns ≡ c.order = leads_once card 1 ns c.order chain.ends c.chain.ends in

@@ -6,7 +6,7 @@ use Rattle.elements.specs.declared.cards.CardFault.{CardFault}
 use Rattle.elements.specs.declared.cards.CardFault.TheVariants.{Length, Offset, Next, Repeated, NoCentre, OnlyCentre}
 use Rattle.elements.specs.Offsets.{◌∈◌, Different}
 use Rattle.elements.specs.Cards.{next_of}
-use Rattle.elements.specs.Chains.{Chain, Comes, Ends, Leads, Refused, Sound, offset_of, visited}
+use Rattle.elements.specs.Chains.{Chain, Comes, Ends, Leads, CardRefused, Sound, offset_of, visited}
 use Rattle.elements.proofs.Members.{different_before}
 
 module _ (card : List ℕ) where
@@ -45,7 +45,7 @@ module _ (card : List ℕ) where
         leads_once 1 all (ns ++ n ∷ []) chain.ends
         (subst (Leads card 1 (ns ++ n ∷ [])) ends.end (leads_push 1 ns n ends.comes.leads ends.sound))
 
-    pub no_fault_on_chain : (f : CardFault) → Refused card f → ⊥
+    pub no_fault_on_chain : (f : CardFault) → CardRefused card f → ⊥
     no_fault_on_chain Length e = true≢false (sym chain.size ∙ e)
     no_fault_on_chain (Offset byte) (ns, n, comes, inl p) = p.1 (past ns n comes).2.column
     no_fault_on_chain (Offset byte) (ns, n, comes, inr p) = p.2 (past ns n comes).2.row

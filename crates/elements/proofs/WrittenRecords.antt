@@ -6,7 +6,7 @@ use Rattle.std.proofs.lemmas.Bool.Decides.{nat_tests}
 use Rattle.elements.specs.declared.element.Element.{Element}
 use Rattle.elements.specs.Offsets.{◌∈◌, Different, Near, flagged, offset_at}
 use Rattle.elements.specs.Elements.{offsets}
-use Rattle.elements.specs.Cards.{column_of, next_of, record_byte, records, row_of, sized}
+use Rattle.elements.specs.Cards.{column_of, next_of, record_byte, records, row_of, has_right_length}
 use Rattle.elements.specs.Chains.{Leads, Sound, offset_of, visited}
 use Rattle.elements.specs.Written.{CardOf}
 use Rattle.elements.proofs.Elements.{offsets_law}
@@ -108,26 +108,26 @@ module _ (card changed : List ℕ) (number : ℕ) (first : 1 ≤ number)
 
 -- The turn of the flag before place i: where it is set, its record is written.
 module _ {e : Element} {card : List ℕ} {number next : ℕ} (i : ℕ) (w : Writing e card number next (offsets_from e i)) (more : 0 < i) (within : i ≤ 49) where
-  before : offsets_from e (i - 1) ≡ cond (get_or e.flags (i - 1) false) (offset_at (i - 1) ∷ offsets_from e i) (offsets_from e i)
-  before = flagged-before e.flags i more (omega (arith, e.square))
+  offsets_before : offsets_from e (i - 1) ≡ cond (get_or e.flags (i - 1) false) (offset_at (i - 1) ∷ offsets_from e i) (offsets_from e i)
+  offsets_before = flagged-before e.flags i more (omega (arith, e.square))
 
   module _ (is_set : get_or e.flags (i - 1) false ≡ true) where
-    one-before : offsets_from e (i - 1) ≡ offset_at (i - 1) ∷ offsets_from e i
-    one-before = before ∙ cond-true _ _ _ is_set
+    offset_before : offsets_from e (i - 1) ≡ offset_at (i - 1) ∷ offsets_from e i
+    offset_before = offsets_before ∙ cond-true _ _ _ is_set
 
     pub some_left : 1 ≤ number
-    some_left = omega (arith, w.left, ap length one-before, fewer_flagged (i - 1) e.flags)
+    some_left = omega (arith, w.left, ap length offset_before, fewer_flagged (i - 1) e.flags)
 
     pub writing_goes_on : (changed : List ℕ) → length changed ≡ length card
         → offset_of changed number ≡ offset_at (i - 1) → next_of changed number ≡ next
         → ((k : ℕ) → (k < record_byte number) ⊎ (record_byte number + 2 < k) → get_or changed k 0 ≡ get_or card k 0)
         → Writing e changed (number - 1) number (offsets_from e (i - 1))
     writing_goes_on changed same_length o_is next_is others =
-        rw one-before
+        rw offset_before
         (record_joins card changed number some_left others w (offset_at (i - 1)) (near_offset_at (i - 1) (omega arith)) same_length o_is next_is)
 
-is_sized_lem : (card : List ℕ) → 1 ≤ records card → records card ≤ 49 → length card ≡ 1 + 3 * records card → sized card ≡ true
-is_sized_lem card some few long = grind (arith, nat_tests)
+has_right_length-true : (card : List ℕ) → 1 ≤ records card → records card ≤ 49 → length card ≡ 1 + 3 * records card → has_right_length card ≡ true
+has_right_length-true card some few long = grind (arith, nat_tests)
 
 -- With the records of all flags written, the card is one of the element.
 pub all_written : {e : Element} {card : List ℕ} {number next : ℕ} → Writing e card number next (offsets e) → CardOf e card
@@ -140,7 +140,7 @@ all_written {e} {card} {number} {next} w =
       long = w.long;
       order = w.order;
       chain = record {
-        size = is_sized_lem card (omega (arith, w.one_each, law.several)) (omega (arith, w.one_each, law.few)) (omega (arith, w.one_each, w.long));
+        size = has_right_length-true card (omega (arith, w.one_each, law.several)) (omega (arith, w.one_each, law.few)) (omega (arith, w.one_each, w.long));
         ends = subst (λ n. Leads card n w.order 0) start w.leads;
         different = subst Different (sym w.visits) law.different;
         centre = subst (λ os. (pos 0, pos 0) ∈ os) (sym w.visits) law.centre;

@@ -30,8 +30,8 @@ abbrev pub records : List ℕ → ℕ
 records card = slice_index card 0
 
 -- Whether that is 1 to 49, and the card is as long as they make it.
-abbrev pub sized : List ℕ → Bool
-sized card = nat_le 1 (records card) && nat_le (records card) 49 && length card == 1 + 3 * records card
+abbrev pub has_right_length : List ℕ → Bool
+has_right_length card = nat_le 1 (records card) && nat_le (records card) 49 && length card == 1 + 3 * records card
 
 -- The first of the three bytes of record n, counted from 1.
 abbrev pub record_byte : ℕ → ℕ
@@ -75,9 +75,9 @@ end_fault byte met =
     (first (nat_lt (count met) 2) (OnlyCentre byte) None)
 
 -- The fault if there is one, and else the flags.
-abbrev pub unless : Option CardFault → Result (List Bool) CardFault → Result (List Bool) CardFault
-unless None flags = flags
-unless (Some fault) flags = Err fault
+abbrev pub refused_or : Option CardFault → Result (List Bool) CardFault → Result (List Bool) CardFault
+refused_or None flags = flags
+refused_or (Some fault) flags = Err fault
 
 -- The offsets of `met` and those that the chain meets from record n on, as flags, or the chain's first fault.
 -- A card's reading never runs out of its 50 turns, since each record visited sets another of the 49 flags: the answer of
@@ -85,12 +85,12 @@ unless (Some fault) flags = Err fault
 unfoldable pub chain_flags : ℕ → List ℕ → ℕ → List Bool → Result (List Bool) CardFault
 chain_flags zero card n met = Err (Repeated (record_byte n))
 chain_flags (suc turns) card n met =
-    unless (record_fault card n met)
+    refused_or (record_fault card n met)
     (let with_n = slice_set met (record_place card n) true in
     cond (next_of card n == 0)
-    (unless (end_fault (record_byte n + 2) with_n) (Ok with_n))
+    (refused_or (end_fault (record_byte n + 2) with_n) (Ok with_n))
     (chain_flags turns card (next_of card n) with_n))
 
 -- What a card comes to: the flags of its element, or its first fault.
 abbrev pub card_flags : List ℕ → Result (List Bool) CardFault
-card_flags card = cond (sized card) (chain_flags 50 card 1 (replicate 49 false)) (Err Length)
+card_flags card = cond (has_right_length card) (chain_flags 50 card 1 (replicate 49 false)) (Err Length)

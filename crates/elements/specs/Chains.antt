@@ -5,7 +5,7 @@ use Rattle.elements.specs.declared.cards.CardFault.TheVariants.{Length, Offset, 
 use Rattle.elements.specs.declared.element.Element.{Element}
 use Rattle.elements.specs.Offsets.{◌∈◌, Different, Near, SameMembers}
 use Rattle.elements.specs.Elements.{offsets}
-use Rattle.elements.specs.Cards.{column_of, next_of, record_byte, records, row_of, sized}
+use Rattle.elements.specs.Cards.{column_of, next_of, record_byte, records, row_of, has_right_length}
 
 -- The offset of record n.
 abbrev pub offset_of : List ℕ → ℕ → ℤ × ℤ
@@ -32,7 +32,7 @@ Leads card n (k ∷ ns) m = (k ≡ n) × Sound card n × Leads card (next_of car
 
 -- The chain from record 1 visits the records ns and ends; their offsets are different, with (0, 0) and at least one more.
 pub record Chain (card ns : List ℕ) : Type 0 where
-  pub size : sized card ≡ true
+  pub size : has_right_length card ≡ true
   pub ends : Leads card 1 ns 0
   pub different : Different (visited card ns)
   pub centre : (pos 0, pos 0) ∈ visited card ns
@@ -40,7 +40,7 @@ pub record Chain (card ns : List ℕ) : Type 0 where
 
 -- The chain visits the records ns, whose offsets are different, and comes to record n.
 pub record Comes (card ns : List ℕ) (n : ℕ) : Type 0 where
-  pub size : sized card ≡ true
+  pub size : has_right_length card ≡ true
   pub leads : Leads card 1 ns n
   pub different : Different (visited card ns)
   pub on_card : OnCard card n
@@ -53,18 +53,18 @@ pub record Ends (card ns : List ℕ) (n : ℕ) : Type 0 where
   pub end : next_of card n ≡ 0
 
 -- Why a card is refused, and at which byte.
-abbrev pub Refused : List ℕ → CardFault → Type 0
-Refused card Length = sized card ≡ false
-Refused card (Offset byte) = (ns : List ℕ) × (n : ℕ) × Comes card ns n
+abbrev pub CardRefused : List ℕ → CardFault → Type 0
+CardRefused card Length = has_right_length card ≡ false
+CardRefused card (Offset byte) = (ns : List ℕ) × (n : ℕ) × Comes card ns n
     × (((byte ≡ record_byte n) × (Near (column_of card n) → ⊥))
     ⊎ ((byte ≡ record_byte n + 1) × Near (column_of card n) × (Near (row_of card n) → ⊥)))
-Refused card (Next byte) = (ns : List ℕ) × (n : ℕ) × Comes card ns n × Sound card n
+CardRefused card (Next byte) = (ns : List ℕ) × (n : ℕ) × Comes card ns n × Sound card n
     × (byte ≡ record_byte n + 2) × (records card < next_of card n)
-Refused card (Repeated byte) = (ns : List ℕ) × (n : ℕ) × Comes card ns n × Sound card n
+CardRefused card (Repeated byte) = (ns : List ℕ) × (n : ℕ) × Comes card ns n × Sound card n
     × (next_of card n ≤ records card) × (byte ≡ record_byte n) × (offset_of card n ∈ visited card ns)
-Refused card (NoCentre byte) = (ns : List ℕ) × (n : ℕ) × Ends card ns n
+CardRefused card (NoCentre byte) = (ns : List ℕ) × (n : ℕ) × Ends card ns n
     × (byte ≡ record_byte n + 2) × ((pos 0, pos 0) ∈ visited card (ns ++ n ∷ []) → ⊥)
-Refused card (OnlyCentre byte) = (ns : List ℕ) × (n : ℕ) × Ends card ns n
+CardRefused card (OnlyCentre byte) = (ns : List ℕ) × (n : ℕ) × Ends card ns n
     × (byte ≡ record_byte n + 2) × (ns ≡ []) × (offset_of card n ≡ (pos 0, pos 0))
 
 -- A card is accepted when it has such a chain, and then the element's offsets are those that the chain visits;
@@ -72,4 +72,4 @@ Refused card (OnlyCentre byte) = (ns : List ℕ) × (n : ℕ) × Ends card ns n
 abbrev pub TellsTheChain : List ℕ → Result Element CardFault → Type 0
 TellsTheChain card r = MatchResult r
     (λ e. (ns : List ℕ) × Chain card ns × SameMembers (offsets e) (visited card ns) × (length (offsets e) ≡ length ns))
-    (λ f. Refused card f × ((ns : List ℕ) → Chain card ns → ⊥))
+    (λ f. CardRefused card f × ((ns : List ℕ) → Chain card ns → ⊥))

@@ -2,7 +2,7 @@
 ghost use Rattle.std.specs.Prelude.{◌≡◌, ◌+◌, ◌*◌, ◌^◌, ◌<◌, ◌≤◌, true, false, length, Some, None, Ok, Err, MatchResult, slice_set};
 ghost use Rattle.std.specs.Int.{w8};
 ghost use Rattle.std.proofs.Common.{to_z};
-ghost use Rattle.elements.specs.Cards.{card_fault_number, card_fault_place, card_flags, end_fault, far, far_fault, next_of, record_fault, record_place, records, sized};
+ghost use Rattle.elements.specs.Cards.{card_fault_number, card_fault_place, card_flags, end_fault, far, far_fault, next_of, record_fault, record_place, records, has_right_length};
 ghost use Rattle.elements.specs.Chains.{TellsTheChain};
 
 use crate::element::{Element, count_set};
@@ -58,8 +58,8 @@ impl CardFault {
 }
 
 // Whether the card has 1 to 49 records and is as long as they make it.
-fn is_sized(card: &[u8]) -> bool
-    ensures { result ≡ sized card.now }
+fn is_right_length(card: &[u8]) -> bool
+    ensures { result ≡ has_right_length card.now }
 {
     let [count, records @ ..] = card else {
         return false;
@@ -136,7 +136,7 @@ pub fn read_card(card: &[u8]) -> Result<Element, CardFault>
         (λ fault. card_flags card.now ≡ Err fault) }
     ensures chain { TellsTheChain card.now result }
 {
-    if !is_sized(card) {
+    if !is_right_length(card) {
         return Err(CardFault::Length);
     }
     let mut flags = [false; 49];

@@ -7,7 +7,7 @@ ghost use Rattle.elements.specs.Offsets.{count};
 
 /// A set of 2 to 49 offsets with (0, 0) among them, kept as a 7 × 7 square of flags
 /// in reading order, so that the same offsets are the same value.
-// 49 flags and no list: no heap by a rule of the project.
+// 49 flags and no list: an element allocates nothing.
 #[derive(Clone, Copy)]
 pub struct Element {
     flags: [bool; 49],

@@ -18,15 +18,15 @@ abbrev pub header : ℕ → ℕ → List ℕ
 header w h = header_start ++ (decimal w ++ (32 ∷ (decimal h ++ header_end)))
 
 -- the places of the first digits of the width and of the height
-abbrev pub width_at : ℕ
-width_at = 3
+abbrev pub width_place : ℕ
+width_place = 3
 
-abbrev pub height_at_lem : ℕ → ℕ
-height_at_lem w = width_at + length (decimal w) + 1
+abbrev pub height_place : ℕ → ℕ
+height_place w = width_place + length (decimal w) + 1
 
 -- a side that is told in one to four digits, the first not 0
-abbrev pub Told : ℕ → Type 0
-Told side = (1 ≤ side) × (side ≤ 9999)
+abbrev pub InFourDigits : ℕ → Type 0
+InFourDigits side = (1 ≤ side) × (side ≤ 9999)
 
 -- a side that a picture may have
 abbrev pub LawfulSide : ℕ → Type 0
@@ -34,7 +34,7 @@ LawfulSide side = (1 ≤ side) × (side ≤ 1024)
 
 -- the files that start with a header
 abbrev pub WithHeader : List ℕ → Type 0
-WithHeader bytes = (w : ℕ) × (h : ℕ) × (rest : List ℕ) × Told w × Told h × (bytes ≡ header w h ++ rest)
+WithHeader bytes = (w : ℕ) × (h : ℕ) × (rest : List ℕ) × InFourDigits w × InFourDigits h × (bytes ≡ header w h ++ rest)
 
 -- the file is the picture's header, and then a byte for each cell
 pub record IsFile (bytes : List ℕ) (picture : Picture) : Type 0 where
@@ -52,7 +52,7 @@ Fills bytes picture =
 
 -- the first side above 1,024 is the one whose first digit is at this place
 abbrev pub TooLong : ℕ → ℕ → ℕ → Type 0
-TooLong w h place = ((1024 < w) × (place ≡ width_at)) ⊎ ((w ≤ 1024) × (1024 < h) × (place ≡ height_at_lem w))
+TooLong w h place = ((1024 < w) × (place ≡ width_place)) ⊎ ((w ≤ 1024) × (1024 < h) × (place ≡ height_place w))
 
 -- there are fewer or more cells than the sides tell, and the place is that of the first one missing or too many
 abbrev pub WrongLength : ℕ → ℕ → List ℕ → ℕ → Type 0
@@ -62,7 +62,7 @@ WrongLength w h rest place =
 -- what is wrong with a file that is refused
 abbrev pub Wrong : List ℕ → PictureFault → Type 0
 Wrong bytes (Header place) = FirstMisfit WithHeader bytes place
-Wrong bytes (Side place) = (w : ℕ) × (h : ℕ) × (rest : List ℕ) × Told w × Told h × (bytes ≡ header w h ++ rest) × TooLong w h place
+Wrong bytes (Side place) = (w : ℕ) × (h : ℕ) × (rest : List ℕ) × InFourDigits w × InFourDigits h × (bytes ≡ header w h ++ rest) × TooLong w h place
 Wrong bytes (Length place) = (w : ℕ) × (h : ℕ) × (rest : List ℕ) × (bytes ≡ header w h ++ rest) × WrongLength w h rest place
 
 -- the refusal's number, and its place

@@ -3,8 +3,8 @@
 
 ghost use Rattle.std.specs.Prelude.{◌≡◌, ◌≤◌, [], ◌∷◌, length, IfOk, Ok, Err, MatchResult};
 ghost use Rattle.pictures.specs.declared.PictureFault.TheVariants.{Header};
-ghost use Rattle.pictures.specs.Headers.{height_at_lem, picture_fault_number, picture_fault_place, Fills};
-ghost use Rattle.pictures.specs.Reading.{read, sized, ScansAs, ReadsBackPictures, ReadsOnlyPictures, RefusesWhatIsWrong};
+ghost use Rattle.pictures.specs.Headers.{height_place, picture_fault_number, picture_fault_place, Fills};
+ghost use Rattle.pictures.specs.Reading.{read, picture_of_sides, ScansAs, ReadsBackPictures, ReadsOnlyPictures, RefusesWhatIsWrong};
 
 use text::{Misfit, Scanner};
 
@@ -28,8 +28,8 @@ pub enum PictureFault {
 }
 
 impl PictureFault {
-    /// The number of this refusal.
-    // By match: the variants carry a place, and only an enum of plain variants has a number by `as`.
+    /// The refusal's number: 19, 1 or 20.
+    // By match, as each variant carries a place.
     pub fn number(self) -> u32
         ensures { result ≡ picture_fault_number self }
     {
@@ -63,14 +63,14 @@ impl From<Misfit> for PictureFault {
 const LARGEST_SIDE: u16 = 1_024;
 
 // The place of the width's first digit, after `P5` and a newline.
-const WIDTH_AT: usize = 3;
+const WIDTH_DIGIT: usize = 3;
 
-// What a header tells, and where the height stands in it.
+// What a header tells, and the place of the height's first digit.
 #[derive(Clone, Copy)]
 struct Header {
     width: u16,
     height: u16,
-    height_at: usize,
+    height_digit: usize,
     start: usize,
 }
 
@@ -95,19 +95,19 @@ fn read_header(bytes: &[u8]) -> Result<Header, Misfit>
     ensures answers { MatchResult result
         (λ s. ScansAs bytes.now (Ok (record { numbers = s.width ∷ s.height ∷ []; end = s.start })))
         (λ misfit. ScansAs bytes.now (Err misfit)) }
-    ensures within { IfOk result (λ s. (s.height_at ≡ height_at_lem s.width) × (s.start ≤ length bytes.now)) }
+    ensures within { IfOk result (λ s. (s.height_digit ≡ height_place s.width) × (s.start ≤ length bytes.now)) }
 {
     let mut scanner = Scanner::new(bytes);
     scanner.fixed(b"P5\n")?;
     let width = scanner.number(1)?;
     scanner.fixed(b" ")?;
-    let height_at = scanner.at;
+    let height_digit = scanner.at;
     let height = scanner.number(1)?;
     scanner.fixed(b"\n255\n")?;
     Ok(Header {
         width,
         height,
-        height_at,
+        height_digit,
         start: scanner.at,
     })
 }
@@ -115,14 +115,14 @@ fn read_header(bytes: &[u8]) -> Result<Header, Misfit>
 // The picture of this header, in this file.
 // Its sides are not tried by `limits::Sides`: the refusal tells at which digit the side stands.
 fn check_size(header: Header, bytes: &[u8]) -> Result<Picture, PictureFault>
-    requires { (header.height_at ≡ height_at_lem header.width) × (header.start ≤ length bytes.now) }
-    ensures { result ≡ sized header.width header.height header.start (length bytes.now) }
+    requires { (header.height_digit ≡ height_place header.width) × (header.start ≤ length bytes.now) }
+    ensures { result ≡ picture_of_sides header.width header.height header.start (length bytes.now) }
 {
     if header.width > LARGEST_SIDE {
-        return Err(PictureFault::Side(WIDTH_AT));
+        return Err(PictureFault::Side(WIDTH_DIGIT));
     }
     if header.height > LARGEST_SIDE {
-        return Err(PictureFault::Side(header.height_at));
+        return Err(PictureFault::Side(header.height_digit));
     }
     let width = usize::from(header.width);
     let height = usize::from(header.height);

@@ -42,8 +42,8 @@ equal_itself (fin true m e) s a p v = and_from _ _ (eq-eqb (m * up e * down e) (
 equal_itself (fin false m e) s a p v = and_from _ _ (eq-eqb (m * up e * down e) (m * up e * down e) refl) refl
 
 -- x / d is a / p, with q and e multiplied in.
-cross : (x d a p q e : ℕ) → x * p ≡ a * d → a * q * (d * e) ≡ x * e * (p * q)
-cross x d a p q e h = mul-mul-mul_comm a q d e ∙ ap (λ z. z * (q * e)) (sym h) ∙ simp (mul_assoc, mul_comm, mul_left_comm)
+multiplied_in : (x d a p q e : ℕ) → x * p ≡ a * d → a * q * (d * e) ≡ x * e * (p * q)
+multiplied_in x d a p q e h = mul-mul-mul_comm a q d e ∙ ap (λ z. z * (q * e)) (sym h) ∙ simp (mul_assoc, mul_comm, mul_left_comm)
 
 -- Numbers that are equal are equal fractions.
 pub equal_values : (x y : Float) (s t : Bool) (a p b q : ℕ) → HasValue x s a p → HasValue y t b q → eq x y ≡ true → signed s (a * q) ≡ signed t (b * p)
@@ -55,9 +55,9 @@ equal_values (fin u m d) (inf r) s t a p b q v w h = absurd w
 equal_values (fin u m d) (fin r n e) s t a p b q v w h =
     let x = m * up d in
     let y = n * up e in
-    let left : a * q * (down d * down e) ≡ x * down e * (p * q) = cross x (down d) a p q (down e) v.1 in
+    let left : a * q * (down d * down e) ≡ x * down e * (p * q) = multiplied_in x (down d) a p q (down e) v.1 in
     let right : b * p * (down d * down e) ≡ y * down d * (p * q) =
-    ap (λ z. b * p * z) (mul_comm (down d) (down e)) ∙ cross y (down e) b q p (down d) w.1 ∙ ap (λ z. y * down d * z) (mul_comm q p) in
+    ap (λ z. b * p * z) (mul_comm (down d) (down e)) ∙ multiplied_in y (down e) b q p (down d) w.1 ∙ ap (λ z. y * down d * z) (mul_comm q p) in
     let same : signed s (x * down e) ≡ signed t (y * down d) =
     ap (λ z. signed z (x * down e)) (sym v.0) ∙ level_signed u (x * down e) r (y * down d) h ∙ ap (λ z. signed z (y * down d)) w.0 in
     mul_cancel (signed s (a * q)) (signed t (b * p)) (down d * down e) (mul-pos (down_pos d) (down_pos e))

@@ -58,7 +58,7 @@ fn write_readings(levels: &[Heat], readings: &mut [Reading])
     requires { length levels.now ≡ length readings.old }
     ensures { readings.new ≡ map told_as (map heat_height levels.now) }
 {
-    // By index, since after a zip with iter_mut a proof knows of a list no more than its length.
+    // By index, as in `write_levels`.
     for (index, level) in levels.iter().enumerate() {
         readings[index] = Reading::from(*level);
     }

@@ -8,8 +8,8 @@ use Rattle.std.specs.Char.{is_ascii_digit}
 use Rattle.text.specs.declared.Misfit.{Misfit}
 use Rattle.text.specs.Pieces.{Numeral}
 use Rattle.text.specs.Misfits.{FirstMisfit}
-use Rattle.text.specs.Pieces.{stands, fixed_at, figures, front_value, number_at, refused_at}
-use Rattle.text.specs.Forms.{Form, anything, nothing, fixed, number, written, Takes, OfForm, Reading, before, scan, FixedThere, TellsFixed}
+use Rattle.text.specs.Pieces.{stands, fixed_at, digit_count, front_value, number_at, refused_at}
+use Rattle.text.specs.Forms.{Form, anything, nothing, fixed, number, written, Takes, OfForm, NumbersRead, before, scan, FixedThere, TellsFixed}
 use Rattle.text.proofs.Misfits.{misfit_at_once, misfit_after}
 use Rattle.text.proofs.Numbers.{Front, first_of, none_starts, number_answers, same_number}
 
@@ -29,14 +29,14 @@ Clear (fixed bytes form) = Clear form
 Clear (number least form) = (least ≤ 1) × StartsPlain form × Clear form
 
 -- a text that was read is what the form writes of the numbers, up to the place told
-pub record WasWritten (form : Form) (bytes : List ℕ) (at : ℕ) (reading : Reading) : Type 0 where
+pub record WasWritten (form : Form) (bytes : List ℕ) (at : ℕ) (reading : NumbersRead) : Type 0 where
   pub takes : Takes form reading.numbers (drop reading.end bytes)
   pub writes : drop at bytes ≡ written form reading.numbers ++ drop reading.end bytes
   pub ends : reading.end ≡ at + length (written form reading.numbers)
   pub within : reading.end ≤ length bytes
 
 -- a text that was refused was refused at its first misfit
-pub record Refused (form : Form) (bytes : List ℕ) (at : ℕ) (misfit : Misfit) : Type 0 where
+pub record RefusedAtMisfit (form : Form) (bytes : List ℕ) (at : ℕ) (misfit : Misfit) : Type 0 where
   pub from : at ≤ misfit.place
   pub first : FirstMisfit (OfForm form) (drop at bytes) (misfit.place - at)
 
@@ -145,7 +145,7 @@ same_first_byte s t start =
     sym (get_or-take 1 s 0 0 (omega arith)) ∙ (ap (λ (u : List ℕ). get_or u 0 0) start ∙ get_or-take 1 t 0 0 (omega arith))
 
 number_refused : (least : ℕ) (form : Form) (text : List ℕ) → Clear (number least form)
-    → (figures text ≡ 0) ⊎ ((front_value text < least) × Front text (figures text) (front_value text))
+    → (digit_count text ≡ 0) ⊎ ((front_value text < least) × Front text (digit_count text) (front_value text))
     → FirstMisfit (OfForm (number least form)) text 0
 number_refused least form text clear why =
     let some = some_text (number least form) clear in
@@ -177,8 +177,8 @@ of_rest least form m text clear most stops (n ∷ ns) rest takes same =
     record { numbers = ns; rest = rest; takes = takes.2; same = (after_number least form n ns rest m text clear takes most stops same).1 }
 
 -- a reading goes on after a number as the rest of the form is read
-cases_before : (n : ℕ) (r : Result Reading Misfit) (P Q : Reading → Type 0) (S T : Misfit → Type 0) → MatchResult r P S
-    → ((reading : Reading) → P reading → Q (record { numbers = n ∷ reading.numbers; end = reading.end }))
+cases_before : (n : ℕ) (r : Result NumbersRead Misfit) (P Q : NumbersRead → Type 0) (S T : Misfit → Type 0) → MatchResult r P S
+    → ((reading : NumbersRead) → P reading → Q (record { numbers = n ∷ reading.numbers; end = reading.end }))
     → ((misfit : Misfit) → S misfit → T misfit) → MatchResult (before n r) Q T
 cases_before n (Ok reading) P Q S T holds good bad = good reading holds
 cases_before n (Err misfit) P Q S T holds good bad = bad misfit holds
@@ -187,25 +187,25 @@ cases_before n (Err misfit) P Q S T holds good bad = bad misfit holds
 pub scan_fixed : (wanted : List ℕ) (form : Form) (bytes : List ℕ) (at : ℕ) (end : ℕ) → fixed_at wanted bytes at ≡ Ok end
     → scan (fixed wanted form) bytes at ≡ scan form bytes end
 scan_fixed wanted form bytes at end answer =
-    ap (λ (r : Result ℕ Misfit). elim r as (λ _. Result Reading Misfit) [ Ok e ↦ scan form bytes e | Err misfit ↦ Err misfit ]) answer
+    ap (λ (r : Result ℕ Misfit). elim r as (λ _. Result NumbersRead Misfit) [ Ok e ↦ scan form bytes e | Err misfit ↦ Err misfit ]) answer
 
 pub scan_fixed_refused : (wanted : List ℕ) (form : Form) (bytes : List ℕ) (at : ℕ) (misfit : Misfit) → fixed_at wanted bytes at ≡ Err misfit
     → scan (fixed wanted form) bytes at ≡ Err misfit
 scan_fixed_refused wanted form bytes at misfit answer =
-    ap (λ (r : Result ℕ Misfit). elim r as (λ _. Result Reading Misfit) [ Ok e ↦ scan form bytes e | Err misfit ↦ Err misfit ]) answer
+    ap (λ (r : Result ℕ Misfit). elim r as (λ _. Result NumbersRead Misfit) [ Ok e ↦ scan form bytes e | Err misfit ↦ Err misfit ]) answer
 
 pub scan_number : (least : ℕ) (form : Form) (bytes : List ℕ) (at : ℕ) (n : Numeral) → number_at least bytes at ≡ Ok n
     → scan (number least form) bytes at ≡ before n.value (scan form bytes n.end)
 scan_number least form bytes at n answer =
-    ap (λ (r : Result Numeral Misfit). elim r as (λ _. Result Reading Misfit) [ Ok n ↦ before n.value (scan form bytes n.end) | Err misfit ↦ Err misfit ]) answer
+    ap (λ (r : Result Numeral Misfit). elim r as (λ _. Result NumbersRead Misfit) [ Ok n ↦ before n.value (scan form bytes n.end) | Err misfit ↦ Err misfit ]) answer
 
 pub scan_number_refused : (least : ℕ) (form : Form) (bytes : List ℕ) (at : ℕ) (misfit : Misfit) → number_at least bytes at ≡ Err misfit
     → scan (number least form) bytes at ≡ Err misfit
 scan_number_refused least form bytes at misfit answer =
-    ap (λ (r : Result Numeral Misfit). elim r as (λ _. Result Reading Misfit) [ Ok n ↦ before n.value (scan form bytes n.end) | Err misfit ↦ Err misfit ]) answer
+    ap (λ (r : Result Numeral Misfit). elim r as (λ _. Result NumbersRead Misfit) [ Ok n ↦ before n.value (scan form bytes n.end) | Err misfit ↦ Err misfit ]) answer
 
 scanned : (form : Form) → Clear form → (bytes : List ℕ) (at : ℕ) → at ≤ length bytes
-    → MatchResult (scan form bytes at) (WasWritten form bytes at) (Refused form bytes at)
+    → MatchResult (scan form bytes at) (WasWritten form bytes at) (RefusedAtMisfit form bytes at)
 scanned anything clear bytes at within = record { takes = refl; writes = refl; ends = omega arith; within = within }
 scanned nothing clear bytes at within =
     elim (cases_Bool (leb (length bytes) at)) [
@@ -247,7 +247,7 @@ scanned (number least form) clear bytes at within =
     elim (number_answers least bytes at) [
       | inl (n, end, answer, found) ↦
           rw (scan_number least form bytes at _ answer)
-          (cases_before n (scan form bytes end) (WasWritten form bytes end) (WasWritten (number least form) bytes at) (Refused form bytes end) (Refused (number least form) bytes at)
+          (cases_before n (scan form bytes end) (WasWritten form bytes end) (WasWritten (number least form) bytes at) (RefusedAtMisfit form bytes end) (RefusedAtMisfit (number least form) bytes at)
           (scanned form clear.2 bytes end found.within)
           (λ reading w. record {
             takes = (found.enough, found.most, w.takes);
@@ -277,18 +277,18 @@ tells_fixed wanted bytes at within =
           (record { from = refused.from; within = refused.within; first = refused.first anything tt })
     ]
 
-pub reads_what_was_written : (form : Form) (bytes : List ℕ) (at : ℕ) (reading : Reading) → Clear form → at ≤ length bytes
+pub reads_what_was_written : (form : Form) (bytes : List ℕ) (at : ℕ) (reading : NumbersRead) → Clear form → at ≤ length bytes
     → scan form bytes at ≡ Ok reading → WasWritten form bytes at reading
 reads_what_was_written form bytes at reading clear within answer =
-    MatchResult-at_ok (WasWritten form bytes at) (Refused form bytes at) reading answer (scanned form clear bytes at within)
+    MatchResult-at_ok (WasWritten form bytes at) (RefusedAtMisfit form bytes at) reading answer (scanned form clear bytes at within)
 
 pub refuses_at_first_misfit : (form : Form) (bytes : List ℕ) (at : ℕ) (misfit : Misfit) → Clear form → at ≤ length bytes
-    → scan form bytes at ≡ Err misfit → Refused form bytes at misfit
+    → scan form bytes at ≡ Err misfit → RefusedAtMisfit form bytes at misfit
 refuses_at_first_misfit form bytes at misfit clear within answer =
-    MatchResult-at_err (WasWritten form bytes at) (Refused form bytes at) misfit answer (scanned form clear bytes at within)
+    MatchResult-at_err (WasWritten form bytes at) (RefusedAtMisfit form bytes at) misfit answer (scanned form clear bytes at within)
 
 same_reading : (ms ns : List ℕ) (i j : ℕ) → ms ≡ ns → i ≡ j
-    → ◌≡◌ {A = Result Reading Misfit} (Ok (record { numbers = ms; end = i })) (Ok (record { numbers = ns; end = j }))
+    → ◌≡◌ {A = Result NumbersRead Misfit} (Ok (record { numbers = ms; end = i })) (Ok (record { numbers = ns; end = j }))
 same_reading ms ns i j e f = cc
 
 -- what a form writes of numbers that it takes is read back as those numbers

@@ -8,7 +8,7 @@ use Rattle.std.proofs.lemmas.Bool.Decides.{nat_tests}
 use Rattle.std.specs.Str.Parse.{AllDigits, digits_value}
 use Rattle.std.specs.Int.{IsInRange}
 use Rattle.std.specs.Char.{is_ascii_digit, digit_value}
-use Rattle.text.specs.Pieces.{run, figures, front_value, number_at, refused_at, NumberThere, NumberMissing, TellsNumber}
+use Rattle.text.specs.Pieces.{run, digit_count, front_value, number_at, refused_at, NumberThere, NumberMissing, TellsNumber}
 
 digit_within : (c : ℕ) → is_ascii_digit c ≡ true → digit_value c < 10
 digit_within c h = grind (arith, nat_tests)
@@ -74,7 +74,7 @@ digits_front text count some most short digits alone =
       omega arith,
     )
 
-pub front_number : (text : List ℕ) → (figures text ≡ 0 → ⊥) → Front text (figures text) (front_value text)
+pub front_number : (text : List ℕ) → (digit_count text ≡ 0 → ⊥) → Front text (digit_count text) (front_value text)
 front_number [] some = absurd (some refl)
 front_number (c ∷ text) some =
     elim (cases_Bool (eqb c 48)) [
@@ -84,7 +84,7 @@ front_number (c ∷ text) some =
           of (sym (cond-true (eqb c 48) 1 (run 4 (c ∷ text)) z))
           (record { some = omega arith; short = omega arith; spells = spelled.0; most = spelled.1; stops = λ _. inl (ap (λ (b : ℕ). digits_value 10 (b ∷ [])) is) })
       | inr z ↦
-          let count : figures (c ∷ text) ≡ run 4 (c ∷ text) = cond-false (eqb c 48) 1 (run 4 (c ∷ text)) z in
+          let count : digit_count (c ∷ text) ≡ run 4 (c ∷ text) = cond-false (eqb c 48) 1 (run 4 (c ∷ text)) z in
           let r = runs 4 (c ∷ text) in
           let more : 0 < run 4 (c ∷ text) = grind (arith, some) in
           let spelled = digits_front (c ∷ text) (run 4 (c ∷ text)) more r.most r.short r.digits (λ h. absurd (eqb-false c 48 z h)) in
@@ -92,7 +92,7 @@ front_number (c ∷ text) some =
           (record { some = more; short = r.short; spells = spelled.0; most = spelled.1; stops = λ d. inr (full_run 4 (c ∷ text) (run 4 (c ∷ text)) r d) })
     ]
   where
-    of : {k : ℕ} → k ≡ figures (c ∷ text) → Front (c ∷ text) k (digits_value 10 (take k (c ∷ text))) → Front (c ∷ text) (figures (c ∷ text)) (front_value (c ∷ text))
+    of : {k : ℕ} → k ≡ digit_count (c ∷ text) → Front (c ∷ text) k (digits_value 10 (take k (c ∷ text))) → Front (c ∷ text) (digit_count (c ∷ text)) (front_value (c ∷ text))
     of e f = subst (λ (k : ℕ). Front (c ∷ text) k (digits_value 10 (take k (c ∷ text)))) e f
 
 -- a number's decimal holds nothing but digits
@@ -178,29 +178,29 @@ found_from_front least bytes at count n enough front =
 pub number_answers : (least : ℕ) (bytes : List ℕ) (at : ℕ) →
     ((n : ℕ) × (end : ℕ) × (number_at least bytes at ≡ Ok (record { value = n; end = end })) × NumberThere least bytes at n end)
     ⊎ ((number_at least bytes at ≡ refused_at at)
-    × ((figures (drop at bytes) ≡ 0) ⊎ ((front_value (drop at bytes) < least) × Front (drop at bytes) (figures (drop at bytes)) (front_value (drop at bytes)))))
+    × ((digit_count (drop at bytes) ≡ 0) ⊎ ((front_value (drop at bytes) < least) × Front (drop at bytes) (digit_count (drop at bytes)) (front_value (drop at bytes)))))
 unfolding number_at
 number_answers least bytes at =
-    elim (cases_Bool (eqb (figures (drop at bytes)) 0)) [
+    elim (cases_Bool (eqb (digit_count (drop at bytes)) 0)) [
       | inl none ↦ inr (cond-true _ _ _ none, inl (eqb-true _ 0 none))
       | inr some ↦
           let front = front_number (drop at bytes) (eqb-false _ 0 some) in
           elim (cases_Bool (ltb (front_value (drop at bytes)) least)) [
             | inl low ↦ inr (cond-false _ _ _ some ∙ cond-true _ _ _ low, inr (ltb-true _ least low, front))
-            | inr enough ↦ inl (front_value (drop at bytes), at + figures (drop at bytes), cond-false _ _ _ some ∙ cond-false _ _ _ enough, found_from_front least bytes at _ _ (ltb-false _ least enough) front)
+            | inr enough ↦ inl (front_value (drop at bytes), at + digit_count (drop at bytes), cond-false _ _ _ some ∙ cond-false _ _ _ enough, found_from_front least bytes at _ _ (ltb-false _ least enough) front)
           ]
     ]
 
 -- where `number_at` refuses, no number of at least `least` starts as the text does
 pub none_starts : (least n : ℕ) (text : List ℕ) → least ≤ 1 → least ≤ n → n ≤ 9999
-    → (figures text ≡ 0) ⊎ ((front_value text < least) × Front text (figures text) (front_value text))
+    → (digit_count text ≡ 0) ⊎ ((front_value text < least) × Front text (digit_count text) (front_value text))
     → get_or (decimal n) 0 0 ≡ get_or text 0 0 → ⊥
 none_starts least n text one enough most (inl none) same =
-    no_figures text none (ap is_ascii_digit (sym same) ∙ within_digit _ (digit_of_decimal n 0 most (decimal_nonempty n (omega arith))))
+    no_digit text none (ap is_ascii_digit (sym same) ∙ within_digit _ (digit_of_decimal n 0 most (decimal_nonempty n (omega arith))))
   where
-    no_figures : (t : List ℕ) → figures t ≡ 0 → is_ascii_digit (get_or t 0 0) ≡ true → ⊥
-    no_figures [] h digit = both_ways false refl digit
-    no_figures (c ∷ t) h digit =
+    no_digit : (t : List ℕ) → digit_count t ≡ 0 → is_ascii_digit (get_or t 0 0) ≡ true → ⊥
+    no_digit [] h digit = both_ways false refl digit
+    no_digit (c ∷ t) h digit =
         let more : run 4 (c ∷ t) ≡ run 3 t + 1 = cond-true (is_ascii_digit c) (run 3 t + 1) 0 digit in
         elim (cases_Bool (eqb c 48)) [
           | inl z ↦ omega (arith, cond-true (eqb c 48) 1 (run 4 (c ∷ t)) z)
@@ -208,11 +208,11 @@ none_starts least n text one enough most (inl none) same =
         ]
 none_starts least n text one enough most (inr (low, front)) same =
     let first : get_or (decimal (front_value text)) 0 0 ≡ get_or text 0 0 =
-    ap (λ (ds : List ℕ). get_or ds 0 0) front.spells ∙ get_or-take (figures text) text 0 0 front.some in
+    ap (λ (ds : List ℕ). get_or ds 0 0) front.spells ∙ get_or-take (digit_count text) text 0 0 front.some in
     omega (arith, first, zero_first (front_value text) (omega arith), first_decimal n (omega arith) (omega arith))
 
 number_missing : (least : ℕ) (bytes : List ℕ) (at : ℕ) → least ≤ 1
-    → (figures (drop at bytes) ≡ 0) ⊎ ((front_value (drop at bytes) < least) × Front (drop at bytes) (figures (drop at bytes)) (front_value (drop at bytes)))
+    → (digit_count (drop at bytes) ≡ 0) ⊎ ((front_value (drop at bytes) < least) × Front (drop at bytes) (digit_count (drop at bytes)) (front_value (drop at bytes)))
     → NumberMissing least bytes at
 number_missing least bytes at one why n rest enough most same =
     none_starts least n (drop at bytes) one enough most why (sym (first_of n rest most) ∙ ap (λ (t : List ℕ). get_or t 0 0) (sym same))

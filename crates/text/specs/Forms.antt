@@ -60,17 +60,17 @@ TellsFixed wanted bytes at r =
     MatchResult r (λ end. FixedThere wanted bytes at end) (λ misfit. FixedMissing wanted bytes at misfit.place)
 
 -- the numbers that were read, and the place after the last byte
-pub record Reading : Type 0 where
+pub record NumbersRead : Type 0 where
   pub numbers : List ℕ
   pub end : ℕ
 
 -- a number read before the others
-abbrev pub before : ℕ → Result Reading Misfit → Result Reading Misfit
+abbrev pub before : ℕ → Result NumbersRead Misfit → Result NumbersRead Misfit
 before n (Ok reading) = Ok (record { numbers = n ∷ reading.numbers; end = reading.end })
 before n (Err misfit) = Err misfit
 
 -- a text read by a form, from `at` on
-abbrev pub scan : Form → List ℕ → ℕ → Result Reading Misfit
+abbrev pub scan : Form → List ℕ → ℕ → Result NumbersRead Misfit
 scan anything bytes at = Ok (record { numbers = []; end = at })
 scan nothing bytes at = cond (nat_le (length bytes) at) (Ok (record { numbers = []; end = at })) (refused_at at)
 scan (fixed wanted form) bytes at =

@@ -9,11 +9,12 @@ pub record Numeral : Type 0 where
   pub value : ℕ
   pub end : ℕ
 
--- what was read up to the place `end`: the place alone, or a number and the place
-abbrev pub reached : {X : Type 0} → ℕ → Result X Misfit → Result ℕ Misfit
-reached end (Ok _) = Ok end
-reached end (Err misfit) = Err misfit
+-- what was read up to the place `end`, by that place alone
+abbrev pub end_or_misfit : {X : Type 0} → ℕ → Result X Misfit → Result ℕ Misfit
+end_or_misfit end (Ok _) = Ok end
+end_or_misfit end (Err misfit) = Err misfit
 
+-- a number that was read, and the place `end` up to which it was
 abbrev pub with_end : ℕ → Result ℕ Misfit → Result Numeral Misfit
 with_end end (Ok value) = Ok (record { value = value; end = end })
 with_end end (Err misfit) = Err misfit
@@ -38,19 +39,19 @@ run (suc room) [] = 0
 run (suc room) (c ∷ text) = cond (is_ascii_digit c) (run room text + 1) 0
 
 -- how many bytes the number has that a text starts with: a 0 stands alone, and any other number has at most four digits
-abbrev pub figures : List ℕ → ℕ
-figures text = cond (slice_index text 0 == 48) 1 (run 4 text)
+abbrev pub digit_count : List ℕ → ℕ
+digit_count text = cond (slice_index text 0 == 48) 1 (run 4 text)
 
 -- the number that a text starts with
 abbrev pub front_value : List ℕ → ℕ
-front_value text = digits_value 10 (take (figures text) text)
+front_value text = digits_value 10 (take (digit_count text) text)
 
 -- the number at `at`, refused there if no digit stands there or if it is below `least`
 unfoldable pub number_at : ℕ → List ℕ → ℕ → Result Numeral Misfit
 number_at least bytes at =
-    cond (figures (drop at bytes) == 0) (refused_at at)
+    cond (digit_count (drop at bytes) == 0) (refused_at at)
     (cond (nat_lt (front_value (drop at bytes)) least) (refused_at at)
-    (Ok (record { value = front_value (drop at bytes); end = at + figures (drop at bytes) })))
+    (Ok (record { value = front_value (drop at bytes); end = at + digit_count (drop at bytes) })))
 
 -- the number n stands at `at`, and is as long as it can be: a digit follows only a 0, which stands alone, or four digits
 pub record NumberThere (least : ℕ) (bytes : List ℕ) (at n end : ℕ) : Type 0 where

@@ -5,7 +5,7 @@ ghost use Rattle.std.specs.Prelude.{◌≡◌, ◌<◌, ◌≤◌, ◌==◌, len
 ghost use Rattle.std.specs.List.{common_prefix_len};
 ghost use Rattle.std.specs.Str.Parse.{AllDigits, digits_value};
 ghost use Rattle.text.specs.Forms.{TellsFixed};
-ghost use Rattle.text.specs.Pieces.{figures, fixed_at, number_at, reached, with_end, TellsNumber};
+ghost use Rattle.text.specs.Pieces.{digit_count, fixed_at, number_at, end_or_misfit, with_end, TellsNumber};
 
 /// The place of the first byte that does not fit, or the text's length where it ends too early.
 #[derive(Clone, Copy)]
@@ -33,9 +33,9 @@ impl<'t> Scanner<'t> {
     /// Reads the bytes `wanted`.
     /// Refuses a text in which they do not stand next, at the first byte that is another, or at its end.
     pub fn fixed(&mut self, wanted: &[u8]) -> Result<(), Misfit>
-        ensures answers { reached self.new.at result ≡ fixed_at wanted.now self.old.bytes.now self.old.at }
+        ensures answers { end_or_misfit self.new.at result ≡ fixed_at wanted.now self.old.bytes.now self.old.at }
         ensures tells { self.old.at ≤ length self.old.bytes.now →
-            TellsFixed wanted.now self.old.bytes.now self.old.at (reached self.new.at result) }
+            TellsFixed wanted.now self.old.bytes.now self.old.at (end_or_misfit self.new.at result) }
         ensures within { self.old.at ≤ length self.old.bytes.now →
             (self.new.at ≤ length self.old.bytes.now) × IfErr result (λ misfit. misfit.place ≤ length self.old.bytes.now) }
         ensures same_text { self.new.bytes.now ≡ self.old.bytes.now }
@@ -62,7 +62,7 @@ impl<'t> Scanner<'t> {
         ensures err { OnErr result (self.new.at ≡ self.old.at) }
     {
         let text = self.rest();
-        let count = count_figures(text);
+        let count = count_digits(text);
         let value = read_digits(&text[..count]);
         if count == 0 || value < least {
             return Err(Misfit { place: self.at });
@@ -92,8 +92,8 @@ fn count_matching(wanted: &[u8], text: &[u8]) -> usize
 }
 
 // How many bytes the number has that `text` starts with: 0 where it starts with no digit.
-fn count_figures(text: &[u8]) -> usize
-    ensures value { result ≡ figures text.now }
+fn count_digits(text: &[u8]) -> usize
+    ensures value { result ≡ digit_count text.now }
     ensures within { (result ≤ length text.now) × (result ≤ 4) }
     ensures digits { AllDigits 10 (take result text.now) }
 {

@@ -14,7 +14,7 @@ const X: bool = true;
 // In a picture, an offset that it has not.
 const O: bool = false;
 
-// The built-in elements.
+// Which built-in element.
 #[derive(Clone, Copy)]
 enum BuiltIn {
     Cross,

@@ -18,7 +18,7 @@ loop-digit-preserved c =
     let digit : IsInRange 48 57 (get_or digits i 0) = digit_at digits i c.requires.1 c.loop-digit-test.true in
     let more = digits_value_more 10 digits i c.loop-digit-test.true in
     let power : 10 ^ (i + 1) ≡ 10 ^ i * 10 = rw add-one (pow-suc 10 i) in
-    let figure = digit_value_digit (get_or digits i 0) digit in
+    let digit_is = digit_value_digit (get_or digits i 0) digit in
     (omega arith, omega (arith, c.loop-digit.invariant.1))
 
 pub returns : goal.returns

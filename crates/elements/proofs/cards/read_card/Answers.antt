@@ -2,9 +2,9 @@
 use Rattle.std.proofs.Common.{◌≡◌, ◌+◌, ◌*◌, Err, sym, ap, ◌∙◌, arith}
 use Rattle.std.proofs.lemmas.Result.{MatchResult-weaker, err_from_is_err_and}
 use Rattle.elements.specs.Cards.{end_fault, next_of, record_byte}
-use Rattle.elements.proofs.Readings.{reading_goes_on}
+use Rattle.elements.proofs.CardReadings.{reading_goes_on}
 use Rattle.elements.proofs.Outcomes.{accepted_flags, end_refused_flags, record_refused_flags}
-use Rattle.elements.proofs.Told.{tells_the_chain}
+use Rattle.elements.proofs.ChainOrRefusal.{tells_the_chain}
 use Rattle.elements.proofs.cards.read_card.Goals as goal
 
 pub returns-in_err-next : goal.returns-in_err-next

@@ -1,4 +1,4 @@
--- As many offsets as flags that are set.
+-- The element has an offset for each flag that is set.
 use Rattle.std.proofs.Common.{sym, ◌∙◌}
 use Rattle.elements.proofs.Flags.{length-flagged}
 use Rattle.elements.proofs.element.Element.size.Goals as goal

@@ -5,7 +5,7 @@ use Rattle.std.proofs.lemmas.List.Sums.{count_by-le-length, sum_by-set}
 use Rattle.std.proofs.lemmas.Bool.{and_parts, cond-true, cond-false, ne_eqb, eqb-true, leb-true, true≢false}
 use Rattle.elements.specs.declared.cards.CardFault.{CardFault}
 use Rattle.elements.specs.Offsets.{◌∈◌, Different, SameMembers, count, flagged, offset_at}
-use Rattle.elements.specs.Cards.{card_flags, chain_flags, column_of, end_fault, far, next_of, record_byte, record_fault, record_place, records, row_of, sized, unless}
+use Rattle.elements.specs.Cards.{card_flags, chain_flags, column_of, end_fault, far, next_of, record_byte, record_fault, record_place, records, row_of, has_right_length, refused_or}
 use Rattle.elements.specs.Chains.{Comes, Leads, Sound, offset_of, visited}
 use Rattle.elements.proofs.Squares.{near_if_not_far, offset_at_place, place_within}
 use Rattle.elements.proofs.Flags.{member_flag, member_set, set_member}
@@ -14,7 +14,7 @@ use Rattle.elements.proofs.Records.{Passed, tests_passed}
 use Rattle.elements.proofs.Walks.{leads_push}
 
 -- The reading has come to record n, having met the offsets of `met`.
-pub record Reading (card : List ℕ) (n : ℕ) (met : List Bool) : Type 0 where
+pub record CardReading (card : List ℕ) (n : ℕ) (met : List Bool) : Type 0 where
   pub long : length card ≡ 1 + 3 * records card
   pub few : records card ≤ 49
   pub before : List ℕ
@@ -24,7 +24,7 @@ pub record Reading (card : List ℕ) (n : ℕ) (met : List Bool) : Type 0 where
   pub counted : count met ≡ length before
   pub comes_to : chain_flags (50 - count met) card n met ≡ card_flags card
 
-pub reading_starts : (card : List ℕ) → sized card ≡ true → Reading card 1 (replicate 49 false)
+pub reading_starts : (card : List ℕ) → has_right_length card ≡ true → CardReading card 1 (replicate 49 false)
 reading_starts card e =
     let p = and_parts (leb 1 (records card) && leb (records card) 49) (eqb (length card) (1 + 3 * records card)) e in
     let q = and_parts (leb 1 (records card)) (leb (records card) 49) p.0 in
@@ -39,14 +39,14 @@ reading_starts card e =
       comes_to = sym (cond-true _ _ _ e);
     }
 
-module _ (card : List ℕ) (n : ℕ) (met : List Bool) (reading : Reading card n met) where
+module _ (card : List ℕ) (n : ℕ) (met : List Bool) (reading : CardReading card n met) where
   -- The flags once record n is visited.
   abbrev pub with_n : List Bool
   with_n = set met (record_place card n) true
 
   -- What the card comes to if record n has no fault: by the chain's end, or by its other records.
   abbrev pub at_end : Result (List Bool) CardFault
-  at_end = unless (end_fault (record_byte n + 2) with_n) (Ok with_n)
+  at_end = refused_or (end_fault (record_byte n + 2) with_n) (Ok with_n)
 
   abbrev pub at_others : Result (List Bool) CardFault
   at_others = chain_flags (49 - count met) card (next_of card n) with_n
@@ -55,7 +55,7 @@ module _ (card : List ℕ) (n : ℕ) (met : List Bool) (reading : Reading card n
   onward = cond (eqb (next_of card n) 0) at_end at_others
 
   -- One turn of the chain: of 50 turns there is always one left, since at most 49 flags are set.
-  pub turn : card_flags card ≡ unless (record_fault card n met) onward
+  pub turn : card_flags card ≡ refused_or (record_fault card n met) onward
   unfolding chain_flags
   turn =
       let below : count met ≤ 49 = omega (arith, count_by-le-length (λ b. b) met, reading.square) in
@@ -130,7 +130,7 @@ module _ (card : List ℕ) (n : ℕ) (met : List Bool) (reading : Reading card n
     pub leads_n : Leads card 1 with_before (next_of card n)
     leads_n = leads_push card 1 reading.before n reading.comes.leads (sound_n passed.0 passed.1)
 
-    pub reading_goes_on : 0 < next_of card n → Reading card (next_of card n) with_n
+    pub reading_goes_on : 0 < next_of card n → CardReading card (next_of card n) with_n
     reading_goes_on h = record {
       long = reading.long;
       few = reading.few;
@@ -143,5 +143,5 @@ module _ (card : List ℕ) (n : ℕ) (met : List Bool) (reading : Reading card n
           let more : 50 - count with_n ≡ 49 - count met = omega (arith, one_more, count_by-le-length (λ b. b) with_n) in
           let going_on : eqb (next_of card n) 0 ≡ false = ne_eqb (next_of card n) 0 (λ e. omega arith) in
           ap (λ turns. chain_flags turns card (next_of card n) with_n) more
-          ∙ sym (turn ∙ ap (λ found. unless found onward) faultless ∙ cond-false _ at_end at_others going_on);
+          ∙ sym (turn ∙ ap (λ found. refused_or found onward) faultless ∙ cond-false _ at_end at_others going_on);
     }

@@ -9,7 +9,7 @@ use Rattle.std.specs.Char.{is_ascii_digit}
 use Rattle.text.specs.Pieces.{run}
 use Rattle.text.proofs.Pieces.{no_zero, prefix_len-digits}
 use Rattle.text.proofs.Numbers.{runs}
-use Rattle.text.proofs.count_figures.Goals as goal
+use Rattle.text.proofs.count_digits.Goals as goal
 
 pub returns : goal.returns
 returns c =

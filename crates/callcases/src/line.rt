@@ -1,4 +1,5 @@
 // Lines of the input: a word, and numbers behind it.
+use in_use::Sizes;
 use std::alloc::Global;
 use std::io;
 use std::io::ErrorKind;
@@ -8,15 +9,6 @@ use std::io::ErrorKind;
 pub(crate) struct Line<'a> {
     pub(crate) word: &'a str,
     pub(crate) numbers: Vec<usize>,
-}
-
-// The sides of sheets or tallies, the number of places for them, and the length of the memory that they lie in.
-#[derive(Clone, Copy)]
-pub(crate) struct Sizes {
-    pub(crate) w: usize,
-    pub(crate) h: usize,
-    pub(crate) places: usize,
-    pub(crate) len: usize,
 }
 
 impl<'a> Line<'a> {
@@ -36,15 +28,17 @@ impl<'a> Line<'a> {
         Ok(Line { word, numbers })
     }
 
-    // The sizes that a line such as `rack 5 1 4 30` tells.
-    pub(crate) fn sizes(&self, of: &str) -> io::Result<Sizes> {
+    // The sizes that a line such as `rack 5 1 4 30` tells, and the length of the memory.
+    pub(crate) fn sizes(&self, of: &str) -> io::Result<(Sizes, usize)> {
         match self.numbers.as_slice() {
-            [w, h, places, len] if self.word == of => Ok(Sizes {
-                w: *w,
-                h: *h,
-                places: *places,
-                len: *len,
-            }),
+            [w, h, places, len] if self.word == of => {
+                let sizes = Sizes {
+                    w: *w,
+                    h: *h,
+                    places: *places,
+                };
+                Ok((sizes, *len))
+            }
             _ => Err(ErrorKind::InvalidInput.into()),
         }
     }

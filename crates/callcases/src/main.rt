@@ -5,7 +5,6 @@ mod line;
 mod making;
 mod reply;
 mod sequences;
-mod visits;
 
 use cases::{Cases, Kind, run_at_every_kind};
 use levels::level::Level;

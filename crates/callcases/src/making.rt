@@ -1,13 +1,9 @@
 // The making of a call.
-ghost use Rattle.std.specs.Prelude.{◌≡◌};
-ghost use Rattle.bench.specs.Model.{rack_outline, shared};
-
 use crate::line::Line;
 use crate::reply::Reply;
-use crate::visits::Bench;
-use bench::Rack;
 use calls::{cut, join, meet, show_sheet, show_tally, span};
 use cases::Kind;
+use in_use::BenchInUse;
 use levels::Mask;
 use levels::level::Level;
 use limits::Fault;
@@ -17,15 +13,14 @@ use std::io::ErrorKind;
 
 // Makes the call of a line that fills a place of a rack. Its last number tells how many levels a load takes: the first or the last
 // ones of the kind's picture, or highest ones.
-#[tactic(auto, using(bench::proofs::Visits::stored_shared, bench::proofs::Visits::made_shared))]
+#[tactic(auto, using(bench::proofs::Visits::made_shared))]
 fn fill<L: Level>(
     heap: Global,
     kind: &Kind<'_, L>,
-    rack: &mut Rack<'_, L>,
+    bench: &mut BenchInUse<'_, L>,
     line: &Line<'_>,
-) -> io::Result<Result<(), Fault>>
-    ensures { shared (rack_outline rack.new) ≡ shared (rack_outline rack.old) }
-{
+) -> io::Result<Result<(), Fault>> {
+    let rack = &mut bench.rack;
     // A match, here and below: the words are the format.
     match (line.word, line.numbers.as_slice()) {
         ("load", [place, len]) => Ok(rack.load(*place, kind.first(*len))),
@@ -48,11 +43,10 @@ fn fill<L: Level>(
 }
 
 // Makes the call of a line. The last number of a call that writes a list is the list's length.
-#[tactic(auto, using(crate::proofs::Slips::shared_holds))]
 pub(crate) fn make<L: Level>(
     heap: Global,
     kind: &Kind<'_, L>,
-    bench: &mut Bench<'_, L>,
+    bench: &mut BenchInUse<'_, L>,
     line: &Line<'_>,
 ) -> io::Result<Reply<L>> {
     match (line.word, line.numbers.as_slice()) {
@@ -79,6 +73,6 @@ pub(crate) fn make<L: Level>(
             let answer = cut(&bench.rack, *place, height, list.as_mut_slice());
             Ok(Reply::Mask(answer.into(), list))
         }
-        _ => Ok(Reply::Told(fill(heap, kind, &mut bench.rack, line)?.into())),
+        _ => Ok(Reply::Told(fill(heap, kind, bench, line)?.into())),
     }
 }

@@ -1,8 +1,8 @@
 // Sequences of calls on a rack and its slate.
 use crate::line::Line;
 use crate::making::make;
-use crate::visits::Bench;
 use cases::Kind;
+use in_use::BenchInUse;
 use levels::level::Level;
 use std::io;
 
@@ -23,7 +23,7 @@ fn print_memory<L: Level>(rt: &HostRuntime, levels: &[L], numbers: &[i32]) -> io
 fn make_all<L: Level>(
     rt: &HostRuntime,
     kind: &Kind<'_, L>,
-    bench: &mut Bench<'_, L>,
+    bench: &mut BenchInUse<'_, L>,
     calls: &str,
 ) -> io::Result<()> {
     for call in calls.lines() {
@@ -52,15 +52,20 @@ pub(crate) fn make_sequence<L: Level>(
     let (slate, calls) = split_line(rest);
     let heap = rt.alloc();
     println!(rt; "{title} ({})", kind.title)?;
-    let rack = Line::read(heap, rack)?.sizes("rack")?;
-    let slate = Line::read(heap, slate)?.sizes("slate")?;
-    let mut levels = vec![in heap; L::highest(); rack.len]?;
-    let mut numbers = vec![in heap; 7; slate.len]?;
-    let mut bench = Bench::open(levels.as_mut_slice(), rack, numbers.as_mut_slice(), slate);
+    let (sheets, levels_len) = Line::read(heap, rack)?.sizes("rack")?;
+    let (tallies, numbers_len) = Line::read(heap, slate)?.sizes("slate")?;
+    let mut levels = vec![in heap; L::highest(); levels_len]?;
+    let mut numbers = vec![in heap; 7; numbers_len]?;
+    let mut bench = BenchInUse::open(
+        levels.as_mut_slice(),
+        sheets,
+        numbers.as_mut_slice(),
+        tallies,
+    );
     let printed = make_all(rt, kind, &mut bench, calls);
     let _ = bench.end();
     // Taken apart: a slip's own drop asks for something, so the check covers no drop of a struct that holds one.
-    let Bench {
+    let BenchInUse {
         rack: _,
         slate: _,
         slip: _,

@@ -3,8 +3,8 @@ use Rattle.std.specs.Prelude.{◌≡◌, true, is_some, Option}
 use Rattle.bench.specs.declared.slip.Slip.{Slip}
 use Rattle.bench.specs.Model.{Outline, shared, slip_flat}
 
--- rack and slate have the visit of the slip, or none, and during a visit the same sides
-pub record Holds (slip : Option Slip) (rack slate : Outline) : Type 0 where
+-- rack and slate have the visit of the slip, or none without a slip, and with one the same sides
+pub record SlipOfVisit (slip : Option Slip) (rack slate : Outline) : Type 0 where
   pub on_rack : rack.visit ≡ slip_flat slip
   pub on_slate : slate.visit ≡ slip_flat slip
   pub same : is_some slip ≡ true → shared rack ≡ shared slate

@@ -1,0 +1,13 @@
+-- A bench in use as a bench of the model. Assumes nothing.
+use Rattle.std.specs.Prelude.{ℕ, unwrap_or}
+use Rattle.bench.specs.Model.{rack_state, slate_state}
+use Rattle.in_use.specs.declared.bench_in_use.BenchInUse.{BenchInUse}
+use Rattle.model.specs.Steps.{Bench}
+
+-- the bench of a rack, whose levels have these heights, and its slate
+abbrev pub bench_of : {L : Type 0} → (L → ℕ) → BenchInUse L → Bench
+bench_of height bench = record { rack = rack_state height bench.rack; slate = slate_state bench.slate }
+
+-- the flat of the visit that is open on a bench, 0 where none is
+abbrev pub open_flat : Bench → ℕ
+open_flat b = unwrap_or b.rack.outline.visit 0

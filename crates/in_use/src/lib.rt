@@ -1,0 +1,7 @@
+// A bench in use: a rack and its slate, with the slip of the visit that is open on them.
+#![tactic(auto)]
+
+mod bench_in_use;
+mod visits;
+
+pub use bench_in_use::{BenchInUse, Sizes};

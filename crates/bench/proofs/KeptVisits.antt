@@ -12,9 +12,18 @@ pub stored_shared : (o : Option Fault) (s after : State (List ℕ)) (k : ℕ) (c
 stored_shared None s after k cells is = ap (λ t. shared t.outline) is
 stored_shared (Some f) s after k cells is = ap (λ t. shared t.outline) is
 
-pub made_shared : {L T : Type 0} (height : L → ℕ) (made : Making) (told : OfTwo T) (was is : Rack L) (one other to : ℕ) (answer : Result T Fault)
-    → MakesSheet height made told was is one other to answer → shared (rack_outline is) ≡ shared (rack_outline was)
-made_shared height made told was is one other to answer h = stored_shared _ (rack_state height was) (rack_state height is) to _ h.steps
+-- and the number of places
+pub stored_places : (o : Option Fault) (s after : State (List ℕ)) (k : ℕ) (cells : List ℕ) → after ≡ unless o (stored s k cells) s → after.outline.places ≡ s.outline.places
+stored_places None s after k cells is = ap (λ t. t.outline.places) is
+stored_places (Some f) s after k cells is = ap (λ t. t.outline.places) is
+
+module _ {L T : Type 0} (height : L → ℕ) (made : Making) (told : OfTwo T) (was is : Rack L) (one other to : ℕ) (answer : Result T Fault)
+    (makes : MakesSheet height made told was is one other to answer) where
+  pub made_shared : shared (rack_outline is) ≡ shared (rack_outline was)
+  made_shared = stored_shared _ (rack_state height was) (rack_state height is) to _ makes.steps
+
+  pub made_places : (rack_outline is).places ≡ (rack_outline was).places
+  made_places = stored_places _ (rack_state height was) (rack_state height is) to _ makes.steps
 
 -- end is not refused where the visit on both is to the slip's flat
 pub end_accepted : (flat : ℕ) (r s : Outline) → r.visit ≡ Some (record { flat = flat }) → shared r ≡ shared s → end_refusal r s flat ≡ None

@@ -1,5 +1,6 @@
 // Slips that are tried on a rack or a slate of another visit.
-ghost use Rattle.std.specs.Prelude.{◌≡◌, ◌≤◌, ◌≢◌, ◌||◌, true, is_some, Some, None};
+ghost use Rattle.std.specs.Prelude.{◌≡◌, ◌≤◌, ◌≢◌, ◌||◌, true, is_some, map, pos, Some, None};
+ghost use Rattle.bench.specs.Calls.{SameMemory, wiped};
 ghost use Rattle.bench.specs.Model.{rack_outline, shared, slate_outline};
 
 use bench::{EndRefused, Rack, Slate, Slip, begin, end};
@@ -11,50 +12,58 @@ use std::io;
 // Rack and slate stand apart here, with their facts: each is tried with those of another visit.
 
 // Begins a visit where begin does not refuse.
-fn begin_free<L: Level>(flat: u16, rack: &mut Rack<'_, L>, slate: &mut Slate<'_>) -> Slip
+pub(crate) fn begin_free<L: Level>(rack: &mut Rack<'_, L>, slate: &mut Slate<'_>, flat: u16) -> Slip
     requires flat { (1 ≤ flat) × (flat ≤ 9999) }
     requires free { (rack_outline rack.old).visit ≡ None }
     requires same { shared (rack_outline rack.old) ≡ shared (slate_outline slate.old) }
     ensures flat { result.flat ≡ flat }
-    ensures rack { shared (rack_outline rack.new) ≡ (Some flat, (rack_outline rack.old).w, (rack_outline rack.old).h) }
-    ensures slate { shared (slate_outline slate.new) ≡ (Some flat, (slate_outline slate.old).w, (slate_outline slate.old).h) }
+    ensures rack { shared (rack_outline rack.new) ≡ (Some (record { flat = flat }), (rack_outline rack.old).w, (rack_outline rack.old).h) }
+    ensures slate { shared (slate_outline slate.new) ≡ (Some (record { flat = flat }), (slate_outline slate.old).w, (slate_outline slate.old).h) }
+    ensures rack_places { (rack_outline rack.new).places ≡ (rack_outline rack.old).places }
+    ensures slate_places { (slate_outline slate.new).places ≡ (slate_outline slate.old).places }
+    ensures rack_lent { SameMemory rack.old.memory rack.new.memory }
+    ensures slate_lent { SameMemory slate.old.memory slate.new.memory }
 {
-    begin(flat, rack, slate).unwrap()
+    begin(rack, slate, flat).unwrap()
 }
 
 // Ends a visit where end does not refuse.
-fn end_own<L: Level>(slip: Slip, rack: &mut Rack<'_, L>, slate: &mut Slate<'_>)
-    requires own { (rack_outline rack.old).visit ≡ Some slip.flat }
+pub(crate) fn end_own<L: Level>(rack: &mut Rack<'_, L>, slate: &mut Slate<'_>, slip: Slip)
+    requires own { (rack_outline rack.old).visit ≡ Some (record { flat = slip.flat }) }
     requires same { shared (rack_outline rack.old) ≡ shared (slate_outline slate.old) }
     ensures rack { shared (rack_outline rack.new) ≡ (None, (rack_outline rack.old).w, (rack_outline rack.old).h) }
     ensures slate { shared (slate_outline slate.new) ≡ (None, (slate_outline slate.old).w, (slate_outline slate.old).h) }
+    ensures levels { map L.height rack.new.memory.now ≡ wiped (rack_outline rack.old).places 0 (map L.height rack.old.memory.now) }
+    ensures numbers { slate.new.memory.now ≡ wiped (slate_outline slate.old).places (pos 0) slate.old.memory.now }
+    ensures rack_lent { SameMemory rack.old.memory rack.new.memory }
+    ensures slate_lent { SameMemory slate.old.memory slate.new.memory }
 {
-    match end(slip, rack, slate) {
+    match end(rack, slate, slip) {
         Ok(()) => {}
         Err(_) => unreachable!(),
     }
 }
 
 // Tries to begin a visit with a rack or a slate that has one; nothing changes.
-fn begin_refused<L: Level>(flat: u16, rack: &mut Rack<'_, L>, slate: &mut Slate<'_>) -> Fault
+fn begin_refused<L: Level>(rack: &mut Rack<'_, L>, slate: &mut Slate<'_>, flat: u16) -> Fault
     requires { (is_some (rack_outline rack.old).visit || is_some (slate_outline slate.old).visit) ≡ true }
     ensures rack { rack_outline rack.new ≡ rack_outline rack.old }
     ensures slate { slate_outline slate.new ≡ slate_outline slate.old }
 {
-    match begin(flat, rack, slate) {
+    match begin(rack, slate, flat) {
         Ok(_) => unreachable!(),
         Err(fault) => fault,
     }
 }
 
 // Tries to end a visit where the slip is not that of the rack or the slate is not the rack's; nothing changes.
-fn end_refused<L: Level>(slip: Slip, rack: &mut Rack<'_, L>, slate: &mut Slate<'_>) -> (Slip, Fault)
-    requires { (rack_outline rack.old).visit ≡ Some slip.flat → shared (rack_outline rack.old) ≢ shared (slate_outline slate.old) }
+fn end_refused<L: Level>(rack: &mut Rack<'_, L>, slate: &mut Slate<'_>, slip: Slip) -> (Slip, Fault)
+    requires { (rack_outline rack.old).visit ≡ Some (record { flat = slip.flat }) → shared (rack_outline rack.old) ≢ shared (slate_outline slate.old) }
     ensures slip { result.0 ≡ slip }
     ensures rack { rack_outline rack.new ≡ rack_outline rack.old }
     ensures slate { slate_outline slate.new ≡ slate_outline slate.old }
 {
-    match end(slip, rack, slate) {
+    match end(rack, slate, slip) {
         Ok(()) => unreachable!(),
         Err(EndRefused { slip: back, fault }) => (back, fault),
     }
@@ -73,17 +82,17 @@ fn cross_flats<L: Level>(
     requires next_rack { shared (rack_outline other_rack.old) ≡ (None, 5, 1) }
     requires next_slate { shared (slate_outline other_slate.old) ≡ (None, 5, 1) }
 {
-    let slip = begin_free(7, rack, slate);
-    let other = begin_free(8, other_rack, other_slate);
-    let (other, other_flat) = end_refused(other, rack, slate);
-    let (other, flat_first) = end_refused(other, rack, other_slate);
-    let (slip, other_visit) = end_refused(slip, rack, other_slate);
-    end_own(other, other_rack, other_slate);
-    let (slip, no_visit) = end_refused(slip, other_rack, other_slate);
-    let (slip, slate_without) = end_refused(slip, rack, other_slate);
-    let slate_with = begin_refused(9, other_rack, slate);
-    let rack_with = begin_refused(9, rack, other_slate);
-    end_own(slip, rack, slate);
+    let slip = begin_free(rack, slate, 7);
+    let other = begin_free(other_rack, other_slate, 8);
+    let (other, other_flat) = end_refused(rack, slate, other);
+    let (other, flat_first) = end_refused(rack, other_slate, other);
+    let (slip, other_visit) = end_refused(rack, other_slate, slip);
+    end_own(other_rack, other_slate, other);
+    let (slip, no_visit) = end_refused(other_rack, other_slate, slip);
+    let (slip, slate_without) = end_refused(rack, other_slate, slip);
+    let slate_with = begin_refused(other_rack, slate, 9);
+    let rack_with = begin_refused(rack, other_slate, 9);
+    end_own(rack, slate, slip);
     [
         other_flat,
         flat_first,
@@ -111,12 +120,12 @@ fn cross_sides<L: Level>(
     ensures next_rack { shared (rack_outline other_rack.new) ≡ (None, 1, 5) }
     ensures next_slate { shared (slate_outline other_slate.new) ≡ (None, 1, 5) }
 {
-    let slip = begin_free(9999, rack, slate);
-    let other = begin_free(9999, other_rack, other_slate);
-    let (slip, wide) = end_refused(slip, rack, other_slate);
-    let (other, high) = end_refused(other, other_rack, slate);
-    end_own(slip, rack, slate);
-    end_own(other, other_rack, other_slate);
+    let slip = begin_free(rack, slate, 9999);
+    let other = begin_free(other_rack, other_slate, 9999);
+    let (slip, wide) = end_refused(rack, other_slate, slip);
+    let (other, high) = end_refused(other_rack, slate, other);
+    end_own(rack, slate, slip);
+    end_own(other_rack, other_slate, other);
     [wide, high]
 }
 

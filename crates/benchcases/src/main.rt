@@ -1,19 +1,21 @@
-// The program benchcases: tries sizes, and at every level kind erosion and dilation of lists and crossed slips and slates, and prints
-// what each answers.
+// The program benchcases: tries sizes, and at every level kind erosion and dilation of lists, crossed slips and slates, and what a
+// visit leaves in memory, and prints what each answers.
 #![tactic(auto)]
 
 mod crossing;
+mod lending;
 mod sheets;
 mod sizes;
 
 use cases::{Cases, Kind, run_at_every_kind};
 use crossing::cross_visits;
+use lending::lend;
 use levels::level::Level;
 use sheets::operate_all;
 use sizes::check_sizes;
 use std::io;
 
-// At a level kind, erosion and dilation, and crossed slips and slates.
+// At a level kind, erosion and dilation, crossed slips and slates, and memory after a visit.
 struct BenchCases;
 
 impl Cases for BenchCases {
@@ -22,7 +24,9 @@ impl Cases for BenchCases {
         println!(rt; "# {title}: erosion and dilation")?;
         operate_all(rt, kind)?;
         println!(rt; "# {title}: crossed slips and slates")?;
-        cross_visits::<L>(rt)
+        cross_visits::<L>(rt)?;
+        println!(rt; "# {title}: memory after a visit")?;
+        lend(rt, kind)
     }
 }
 

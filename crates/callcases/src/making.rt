@@ -1,7 +1,8 @@
 // The making of a call.
 use crate::line::Line;
 use crate::reply::Reply;
-use calls::{cut, join, meet, show_sheet, show_tally, span};
+use bench::load;
+use calls::{area, cut, dilate, erode, join, meet, show_sheet, show_tally, span};
 use cases::Kind;
 use in_use::BenchInUse;
 use levels::Mask;
@@ -13,7 +14,6 @@ use std::io::ErrorKind;
 
 // Makes the call of a line that fills a place of a rack. Its last number tells how many levels a load takes: the first or the last
 // ones of the kind's picture, or highest ones.
-#[tactic(auto, using(bench::proofs::Visits::made_shared))]
 fn fill<L: Level>(
     heap: Global,
     kind: &Kind<'_, L>,
@@ -23,19 +23,19 @@ fn fill<L: Level>(
     let rack = &mut bench.rack;
     // A match, here and below: the words are the format.
     match (line.word, line.numbers.as_slice()) {
-        ("load", [place, len]) => Ok(rack.load(*place, kind.first(*len))),
+        ("load", [place, len]) => Ok(load(rack, *place, kind.first(*len))),
         ("load-last", [place, len]) => {
             let (_, picture) = kind
                 .picture
                 .split_at(kind.picture.len().saturating_sub(*len));
-            Ok(rack.load(*place, picture))
+            Ok(load(rack, *place, picture))
         }
         ("load-highest", [place, len]) => {
             let picture = vec![in heap; L::highest(); *len]?;
-            Ok(rack.load(*place, picture.as_slice()))
+            Ok(load(rack, *place, picture.as_slice()))
         }
-        ("erode", [from, to]) => Ok(rack.erode(&kind.element, *from, *to)),
-        ("dilate", [from, to]) => Ok(rack.dilate(&kind.element, *from, *to)),
+        ("erode", [from, to]) => Ok(erode(rack, &kind.element, *from, *to)),
+        ("dilate", [from, to]) => Ok(dilate(rack, &kind.element, *from, *to)),
         ("meet", [one, other, to]) => Ok(meet(rack, *one, *other, *to)),
         ("join", [one, other, to]) => Ok(join(rack, *one, *other, *to)),
         _ => Err(ErrorKind::InvalidInput.into()),
@@ -55,7 +55,7 @@ pub(crate) fn make<L: Level>(
             Ok(Reply::Told(bench.begin(flat).into()))
         }
         ("end", []) => Ok(Reply::Told(bench.end().into())),
-        ("area", [place]) => Ok(Reply::Told(bench.rack.area(*place).into())),
+        ("area", [place]) => Ok(Reply::Told(area(&bench.rack, *place).into())),
         ("span", [place]) => Ok(Reply::Span(span(&bench.rack, *place))),
         ("show", [place, len]) => {
             let mut list = vec![in heap; L::highest(); *len]?;
@@ -70,7 +70,7 @@ pub(crate) fn make<L: Level>(
         ("cut", [place, height, len]) => {
             let height = u32::try_from(*height).map_err(|_| ErrorKind::InvalidInput)?;
             let mut list = vec![in heap; Mask::Yes; *len]?;
-            let answer = cut(&bench.rack, *place, height, list.as_mut_slice());
+            let answer = cut(&bench.rack, height, *place, list.as_mut_slice());
             Ok(Reply::Mask(answer.into(), list))
         }
         _ => Ok(Reply::Told(fill(heap, kind, bench, line)?.into())),

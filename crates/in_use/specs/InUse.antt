@@ -1,6 +1,6 @@
 -- A bench in use as a bench of the model. Assumes nothing.
 use Rattle.std.specs.Prelude.{ℕ, unwrap_or}
-use Rattle.bench.specs.Model.{rack_state, slate_state}
+use Rattle.bench.specs.Model.{flat_of, rack_state, slate_state}
 use Rattle.in_use.specs.declared.bench_in_use.BenchInUse.{BenchInUse}
 use Rattle.model.specs.Steps.{Bench}
 
@@ -10,4 +10,4 @@ bench_of height bench = record { rack = rack_state height bench.rack; slate = sl
 
 -- the flat of the visit that is open on a bench, 0 where none is
 abbrev pub open_flat : Bench → ℕ
-open_flat b = unwrap_or b.rack.outline.visit 0
+open_flat b = unwrap_or (flat_of b.rack.outline.visit) 0

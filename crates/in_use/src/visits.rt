@@ -38,7 +38,7 @@ impl<L: Level> BenchInUse<'_, L> {
         ensures steps { bench_of L.height self.new ≡ step (bench_of L.height self.old) (Begin flat) }
         ensures answers { telling (λ nothing. SlipTold flat) result ≡ answer (bench_of L.height self.old) (Begin flat) }
     {
-        let slip = begin(flat, &mut self.rack, &mut self.slate)?;
+        let slip = begin(&mut self.rack, &mut self.slate, flat)?;
         match self.slip.replace(slip) {
             None => Ok(()),
             Some(_) => unreachable!(),
@@ -56,7 +56,7 @@ impl<L: Level> BenchInUse<'_, L> {
         let Some(slip) = self.slip.take() else {
             return Err(Fault::NoVisit);
         };
-        match end(slip, &mut self.rack, &mut self.slate) {
+        match end(&mut self.rack, &mut self.slate, slip) {
             Ok(()) => Ok(()),
             Err(_) => unreachable!(),
         }

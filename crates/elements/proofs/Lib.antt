@@ -9,3 +9,4 @@ pub mod Outcomes
 pub mod Told
 pub mod ReadBack
 pub mod WrittenRecords
+pub mod CardFlags

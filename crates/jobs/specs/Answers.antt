@@ -1,8 +1,14 @@
 -- What is printed for an answer. Assumes nothing.
-use Rattle.std.specs.Prelude.{ℕ, List, ◌++◌, Ok, Err, codes, decimal}
+use Rattle.std.specs.Prelude.{ℕ, List, ◌++◌, Ok, Err, codes, decimal, Option, Result, option_to_list}
+use Rattle.std.specs.Result.{result_map_both}
 use Rattle.commands.specs.Lines.{spaced}
+use Rattle.faults.specs.declared.JobFault.{JobFault}
 use Rattle.faults.specs.Faults.{fault_text}
 use Rattle.jobs.specs.Commands.{LineAnswer}
+
+-- the answer to a line that tells one number or none
+abbrev pub one_or_none : Result (Option ℕ) JobFault → LineAnswer
+one_or_none = result_map_both option_to_list (λ fault. fault)
 
 -- Of the line with that number: "=" with each number that is told after a blank, or "!" with the line's number and the fault. A newline follows.
 abbrev pub answer_text : ℕ → LineAnswer → List ℕ

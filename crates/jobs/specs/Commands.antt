@@ -1,5 +1,6 @@
 -- The call on the bench that a command stands for, and what a line answers and leaves. Assumes nothing.
 use Rattle.std.specs.Prelude.{ℕ, List, [], ◌∷◌, Ok, Err, Result, unwrap_or}
+use Rattle.std.specs.Result.{result_map_both}
 use Rattle.elements.specs.declared.element.Element.{Element}
 use Rattle.commands.specs.declared.Command.{Command}
 use Rattle.commands.specs.declared.Command.TheVariants.{Begin, Load, Erode, Dilate, Area, End}
@@ -45,8 +46,7 @@ abbrev pub LineAnswer : Type 0
 LineAnswer = Result (List ℕ) JobFault
 
 abbrev pub told_on_line : Result Told Fault → LineAnswer
-told_on_line (Ok told) = Ok (numbers_told told)
-told_on_line (Err fault) = Err (fault_of.Bench fault)
+told_on_line = result_map_both numbers_told fault_of.Bench
 
 -- what a line answers, which is refused if it is no command
 abbrev pub answer_to : Element → List ℕ → Bench → Result Command LineFault → LineAnswer

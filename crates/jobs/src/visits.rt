@@ -4,7 +4,7 @@ ghost use Rattle.std.specs.Option.{unwrap_or};
 ghost use Rattle.std.proofs.Props.{props};
 ghost use Rattle.bench.specs.Calls.{begin_leaves, begin_refusal, end_leaves, end_refusal};
 ghost use Rattle.bench.specs.Model.{rack_outline, rack_state, slate_outline, slate_state, slip_flat};
-ghost use Rattle.jobs.specs.Commands.{benches};
+ghost use Rattle.jobs.specs.Commands.{bench_of};
 ghost use Rattle.jobs.specs.Runs.{opened_bench};
 ghost use Rattle.levels.specs.Gray.{gray_height};
 ghost use Rattle.limits.specs.Faults.{told};
@@ -33,7 +33,7 @@ impl<'a, 'b> JobBench<'a, 'b> {
     ) -> JobBench<'a, 'b>
         requires levels { length levels.old ≡ 6 * (sides.w * sides.h) }
         requires numbers { length numbers.old ≡ sides.w * sides.h }
-        ensures { benches result.rack result.slate ≡ opened_bench sides.w sides.h }
+        ensures { bench_of result.rack result.slate ≡ opened_bench sides.w sides.h }
     {
         let Sides { w, h } = sides;
         let rack = Rack::open(levels, w, h, 4);

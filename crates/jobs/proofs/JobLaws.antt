@@ -32,7 +32,7 @@ use Rattle.jobs.specs.Cards.{card_element}
 use Rattle.jobs.specs.Commands.{LineAnswer, answer_to, call_of, leaves_after, line_answer, line_leaves, lines_leave, open_flat, told_on_line}
 use Rattle.jobs.specs.Lines.{lines_of}
 use Rattle.jobs.specs.Runs.{after_card, after_picture, opened_bench, prepared, printed, printed_for, small_enough}
-use Rattle.jobs.specs.Theorems.{AnswersSum, ForgettingJobs, OneAnswerALine, PrintsAlike, Prints, RefusedLinesChangeNothing, SumsOfCutJobs}
+use Rattle.jobs.specs.Theorems.{LineAnswerSum, ForgettingJobs, OneAnswerALine, PrintsAlike, Prints, RefusedLinesChangeNothing, SumsOfCutJobs}
 use Rattle.jobs.proofs.LineRuns.{OneRun, line_sums, lines_go, start}
 use Rattle.jobs.proofs.Printing.{answer_after, answer_at, answer_within, is_accepted, is_refused, job_accepted, one_for_each, prints_answer}
 
@@ -90,12 +90,12 @@ module _ (card input : List ℕ) (w h : ℕ) (cells : List ℕ) (wide : LawfulSi
     cells_from : (of : List ℕ) → drop p.start (file of) ≡ of
     cells_from of =
         let is : ◌≡◌ {A = Result Picture PictureFault} (Ok (record { width = w; height = h; start = length (header w h) })) (Ok p)
-            = sym (reads_back_pictures w h cells wide tall long) ∙ picture_read (card_element card) (pictures.read (file cells)) element p accepted in
+        = sym (reads_back_pictures w h cells wide tall long) ∙ picture_read (card_element card) (pictures.read (file cells)) element p accepted in
         let same : ◌≡◌ {A = Picture} (record { width = w; height = h; start = length (header w h) }) p = cc (is) in
         drop_at (header w h) of p.start (ap (λ (q : Picture). q.start) same)
 
     cells_sum : let b = opened_bench p.width p.height in let lines = lines_of input in
-        AnswersSum 255 (answer_at element (drop p.start (file cells)) b lines k) (λ a. answer_at element (drop p.start (file (cut a cells))) b lines k)
+        LineAnswerSum 255 (answer_at element (drop p.start (file cells)) b lines k) (λ a. answer_at element (drop p.start (file (cut a cells))) b lines k)
     cells_sum =
         let b = opened_bench p.width p.height in
         let lines = lines_of input in
@@ -103,7 +103,7 @@ module _ (card input : List ℕ) (w h : ℕ) (cells : List ℕ) (wide : LawfulSi
         let o = job_sizes p.width p.height in
         let height = λ (x : HeightsTo 255). x.0 in
         let back = heights_back 255 cells low in
-        subst (λ (x : List ℕ × (ℕ → List ℕ)). AnswersSum 255 (answer_at element x.0 b lines k) (λ a. answer_at element (x.1 a) b lines k))
+        subst (λ (x : List ℕ × (ℕ → List ℕ)). LineAnswerSum 255 (answer_at element x.0 b lines k) (λ a. answer_at element (x.1 a) b lines k))
         (λ i. ((back ∙ sym (cells_from cells)) i, λ a. (ap (cut a) back ∙ sym (cells_from (cut a cells))) i))
         (line_sums height 255 (λ x. x.1) element levels o (read (get_or lines k [])) _ _
         (lines_go height 255 (λ x. x.1) element levels o (take k lines) b (λ a. b) (start height 255 (λ x. x.1) element levels o)))
@@ -230,11 +230,11 @@ refused_lines_change_nothing card file one other before rest line fault is_one i
     let one_long = long card file one before rest line is_one in
     let other_long : length (lines_of other) ≡ length before + length rest = ap length is_other ∙ length-append before rest in (
       (λ k within. alike card file one other element p accepted.1 k k (omega (arith, one_long)) (omega (arith, other_long))
-      (ap (λ lines. answer_at element picture opened lines k) is_one ∙ answer_within element picture opened before (line ∷ rest) k within
-      ∙ sym (answer_within element picture opened before rest k within) ∙ sym (ap (λ lines. answer_at element picture opened lines k) is_other))),
+          (ap (λ lines. answer_at element picture opened lines k) is_one ∙ answer_within element picture opened before (line ∷ rest) k within
+          ∙ sym (answer_within element picture opened before rest k within) ∙ sym (ap (λ lines. answer_at element picture opened lines k) is_other))),
       (λ k within. alike card file one other element p accepted.1 (length before + 1 + k) (length before + k) (omega (arith, one_long)) (omega (arith, other_long))
-      (ap (λ lines. answer_at element picture opened lines (length before + 1 + k)) is_one
-      ∙ answer_after element picture opened before (line ∷ rest) (length before + 1 + k) (suc k) (omega arith)
-      ∙ ap (λ b. answer_at element picture b rest k) left
-      ∙ sym (answer_after element picture opened before rest (length before + k) k refl) ∙ sym (ap (λ lines. answer_at element picture opened lines (length before + k)) is_other))),
+          (ap (λ lines. answer_at element picture opened lines (length before + 1 + k)) is_one
+          ∙ answer_after element picture opened before (line ∷ rest) (length before + 1 + k) (suc k) (omega arith)
+          ∙ ap (λ b. answer_at element picture b rest k) left
+          ∙ sym (answer_after element picture opened before rest (length before + k) k refl) ∙ sym (ap (λ lines. answer_at element picture opened lines (length before + k)) is_other))),
     )

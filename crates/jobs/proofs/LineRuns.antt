@@ -1,5 +1,5 @@
 -- The lines of a job are a run of calls, and those of the jobs cut at each height are the same run on masks. Assumes nothing.
-use Rattle.std.proofs.Common.{◌≡◌, ℕ, ◌+◌, ◌≤◌, List, [], ◌∷◌, ◌++◌, map, Ok, Err, Result, sym, refl, ap, ◌∙◌, subst, unwrap_or}
+use Rattle.std.proofs.Common.{◌≡◌, ℕ, ◌+◌, ◌≤◌, List, [], ◌∷◌, ◌++◌, map, Ok, Err, Result, sym, refl, ap, ◌∙◌, subst}
 use Rattle.commands.specs.declared.Command.{Command}
 use Rattle.commands.specs.declared.Command.TheVariants as commands
 use Rattle.commands.specs.declared.LineFault.{LineFault}
@@ -10,18 +10,22 @@ use Rattle.laws.proofs.Sums.{list_fold_none, list_fold_one, list_fold_same}
 use Rattle.limits.specs.declared.fault.Fault.{Fault}
 use Rattle.morphology.specs.Cells.{cut}
 use Rattle.model.specs.Calls.{Begin, Call, Told, NothingTold, SlipTold, RoundsTold, AreaTold, SpanTold, SpectrumTold, SkeletonTold, SheetTold, TallyTold, with_picture}
-use Rattle.model.specs.Steps.{Bench, BenchSizes, after, answer, bench_opened, step}
+use Rattle.model.specs.Steps.{Bench, BenchSizes, after, answer, bench_opened, step, with_rack}
 use Rattle.runs.specs.Sums.{AnswerSum, ToldSum}
 use Rattle.runs.specs.Theorems.{bench_after, cut_at, in_heights, mask_bench_after}
 use Rattle.runs.proofs.RunLaws.{mask_sums}
 use Rattle.jobs.specs.Commands.{LineAnswer, answer_to, call_of, leaves_after, lines_leave, numbers_told, open_flat, told_on_line}
-use Rattle.jobs.specs.Theorems.{AnswersSum}
+use Rattle.jobs.specs.Theorems.{LineAnswerSum}
 
 -- the call of a command with something else made of its picture is that with what is made of the picture
 call_kept : {X Y : Type 0} (change : List X → List Y) (element : Element) (picture : List X) (flat : ℕ) (command : Command)
     → with_picture change (call_of element picture flat command) ≡ call_of element (change picture) flat command
 call_kept change element picture flat commands.End = refl
 call_kept change element picture flat command = refl
+
+-- the flat is told from the rack's outline
+flat_of_outline : (b c : Bench) → b.rack.outline ≡ c.rack.outline → open_flat b ≡ open_flat c
+flat_of_outline b c same = ap (λ outline. open_flat (with_rack b (record { outline = outline; content = b.rack.content }))) same
 
 -- a run of one call more
 one_more : {X : Type 0} (taken : Call X → Call ℕ) (b : Bench) (calls : List (Call X)) (next : Call X) → step (after b (map taken calls)) (taken next) ≡ after b (map taken (calls ++ (next ∷ [])))
@@ -46,7 +50,7 @@ numbers_sum top (SheetTold f) tolds are = no_numbers top tolds (λ a low. ap num
 numbers_sum top (TallyTold t) tolds sum = no_numbers top tolds (λ a low. ap numbers_told (sum.1 a low))
 
 answers_sum : (top : ℕ) (told : Result Told Fault) (tolds : ℕ → Result Told Fault) → AnswerSum top told tolds
-    → (cuts : ℕ → LineAnswer) → ((a : ℕ) → 1 ≤ a → cuts a ≡ told_on_line (tolds a)) → AnswersSum top (told_on_line told) cuts
+    → (cuts : ℕ → LineAnswer) → ((a : ℕ) → 1 ≤ a → cuts a ≡ told_on_line (tolds a)) → LineAnswerSum top (told_on_line told) cuts
 answers_sum top (Ok told) tolds sum cuts are =
     ((λ a. numbers_told (sum.0 a)), (λ a low. are a low ∙ ap told_on_line (sum.1 a low)), numbers_sum top told sum.0 sum.2)
 answers_sum top (Err fault) tolds refused cuts are = λ a low. are a low ∙ ap told_on_line (refused a low)
@@ -71,7 +75,7 @@ module _ {X : Type 0} (height : X → ℕ) (top : ℕ) (bounded : (x : X) → he
     unfolding the_call
     cut_called a low =
         let same = (mask_sums height top bounded o (λ a. o) (λ a low. record { rack = refl; slate = refl }) run.calls (Begin 0)).0.rack a low in
-        let flats : open_flat (cuts a) ≡ open_flat b = ap open_flat (run.are a low) ∙ ap (λ outline. unwrap_or outline.visit 0) same ∙ sym (ap open_flat run.is) in
+        let flats : open_flat (cuts a) ≡ open_flat b = ap open_flat (run.are a low) ∙ flat_of_outline (mask_bench_after height a o run.calls) (bench_after height o run.calls) same ∙ sym (ap open_flat run.is) in
         call_kept (λ picture. cut a (map height picture)) element levels (open_flat b) command
         ∙ ap (λ flat. call_of element (cut a (map height levels)) flat command) (sym flats)
 
@@ -82,11 +86,11 @@ module _ {X : Type 0} (height : X → ℕ) (top : ℕ) (bounded : (x : X) → he
       are = λ a low. (λ i. step (run.are a low i) (sym (cut_called a low) i)) ∙ one_more (cut_at height a) (bench_opened o) run.calls the_call;
     }
 
-    command_sums : AnswersSum top (answer_to element (map height levels) b (Ok command)) (λ a. answer_to element (cut a (map height levels)) (cuts a) (Ok command))
+    command_sums : LineAnswerSum top (answer_to element (map height levels) b (Ok command)) (λ a. answer_to element (cut a (map height levels)) (cuts a) (Ok command))
     command_sums =
         let sums = (mask_sums height top bounded o (λ a. o) (λ a low. record { rack = refl; slate = refl }) run.calls the_call).1 in
         let told : answer (bench_after height o run.calls) (in_heights height the_call) ≡ answer b (call_of element (map height levels) (open_flat b) command)
-            = λ i. answer (sym run.is i) (called i) in
+        = λ i. answer (sym run.is i) (called i) in
         answers_sum top _ (λ a. answer (mask_bench_after height a o run.calls) (cut_at height a the_call))
         (subst (λ x. AnswerSum top x (λ a. answer (mask_bench_after height a o run.calls) (cut_at height a the_call))) told sums)
         (λ a. answer_to element (cut a (map height levels)) (cuts a) (Ok command))
@@ -99,7 +103,7 @@ module _ {X : Type 0} (height : X → ℕ) (top : ℕ) (bounded : (x : X) → he
   line_goes (Err fault) b cuts run = run
 
   pub line_sums : (r : Result Command LineFault) (b : Bench) (cuts : ℕ → Bench) → OneRun b cuts
-      → AnswersSum top (answer_to element (map height levels) b r) (λ a. answer_to element (cut a (map height levels)) (cuts a) r)
+      → LineAnswerSum top (answer_to element (map height levels) b r) (λ a. answer_to element (cut a (map height levels)) (cuts a) r)
   line_sums (Ok command) b cuts run = command_sums command b cuts run
   line_sums (Err fault) b cuts run = λ a low. refl
 

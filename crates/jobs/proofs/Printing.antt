@@ -136,9 +136,9 @@ no_answer : (fault : JobFault) (k : ℕ) (answer : LineAnswer) → get_or (answe
 no_answer fault zero (Ok ns) same = let z : ◌≡◌ {A = ℕ} 33 61 = ap (λ (t : List ℕ). get_or t 0 0) same in omega arith
 no_answer fault zero (Err f) same =
     let z : ◌≡◌ {A = ℕ} 48 49 =
-        ap (λ (ds : List ℕ). get_or (ds ++ (32 ∷ fault_text fault)) 0 0) (sym (decimal_digit 0 (omega arith)))
-        ∙ ap (λ (t : List ℕ). get_or t 2 0) same
-        ∙ ap (λ (ds : List ℕ). get_or (ds ++ (32 ∷ fault_text f)) 0 0) (decimal_digit 1 (omega arith)) in
+    ap (λ (ds : List ℕ). get_or (ds ++ (32 ∷ fault_text fault)) 0 0) (sym (decimal_digit 0 (omega arith)))
+    ∙ ap (λ (t : List ℕ). get_or t 2 0) same
+    ∙ ap (λ (ds : List ℕ). get_or (ds ++ (32 ∷ fault_text f)) 0 0) (decimal_digit 1 (omega arith)) in
     omega arith
 no_answer fault (suc k) (Ok ns) same = let z : ◌≡◌ {A = ℕ} 0 61 = ap (λ (t : List ℕ). get_or t 0 0) same in omega arith
 no_answer fault (suc k) (Err f) same = let z : ◌≡◌ {A = ℕ} 0 33 = ap (λ (t : List ℕ). get_or t 0 0) same in omega arith

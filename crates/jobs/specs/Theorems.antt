@@ -29,14 +29,14 @@ OneAnswerALine = (card file input : List ℕ) (element : Element) (p : Picture) 
     let picture = drop p.start file in
     (length (lines_of (printed card file input)) ≡ length lines)
     × ((k : ℕ) → k < length lines →
-      let bench = lines_leave element picture (opened_bench p.width p.height) (take k lines) in
-      Prints card file input k (line_answer element picture bench (slice_index_or lines k [])))
+    let bench = lines_leave element picture (opened_bench p.width p.height) (take k lines) in
+    Prints card file input k (line_answer element picture bench (slice_index_or lines k [])))
 
 -- An answer beside those of the jobs with the picture cut at each height: all are refused with the same fault, or as many numbers are
 -- told in all, and each is the sum of those that stand in its place in the jobs cut at 1 to the top.
-abbrev pub AnswersSum : ℕ → LineAnswer → (ℕ → LineAnswer) → Type 0
-AnswersSum top (Ok numbers) cuts = (ns : ℕ → List ℕ) × ((a : ℕ) → 1 ≤ a → cuts a ≡ Ok (ns a)) × ListSum top numbers ns
-AnswersSum top (Err fault) cuts = (a : ℕ) → 1 ≤ a → cuts a ≡ Err fault
+abbrev pub LineAnswerSum : ℕ → LineAnswer → (ℕ → LineAnswer) → Type 0
+LineAnswerSum top (Ok numbers) cuts = (ns : ℕ → List ℕ) × ((a : ℕ) → 1 ≤ a → cuts a ≡ Ok (ns a)) × ListSum top numbers ns
+LineAnswerSum top (Err fault) cuts = (a : ℕ) → 1 ≤ a → cuts a ≡ Err fault
 
 -- Sums. Take the same job with the picture cut at each height. Where the card or a side is refused, all print the same. Else each line
 -- is refused in all or in none, and its numbers are the sums of those that the jobs cut at 1 to 255 tell.
@@ -47,7 +47,7 @@ SumsOfCutJobs = (card input : List ℕ) (w h : ℕ) (cells : List ℕ) →
     let cut_file = λ (a : ℕ). header w h ++ cut a cells in
     MatchResult (prepared card file)
     (λ _. (k : ℕ) → k < length (lines_of input) → (answer : LineAnswer) × (cuts : ℕ → LineAnswer)
-    × Prints card file input k answer × ((a : ℕ) → 1 ≤ a → Prints card (cut_file a) input k (cuts a)) × AnswersSum 255 answer cuts)
+    × Prints card file input k answer × ((a : ℕ) → 1 ≤ a → Prints card (cut_file a) input k (cuts a)) × LineAnswerSum 255 answer cuts)
     (λ _. (a : ℕ) → 1 ≤ a → printed card (cut_file a) input ≡ printed card file input)
 
 -- Forgetting. Two inputs end with the same lines, from a `V` line on that is accepted in both: these lines get the same answers.

@@ -1,25 +1,16 @@
--- The theorems over jobs. Assumes nothing.
-use Rattle.std.proofs.Common.{◌≡◌, ℕ, zero, suc, ◌+◌, ◌*◌, ◌<◌, ◌≤◌, max, Bool, true, false, ◌&&◌, cond, leb, List, [], ◌∷◌, ◌++◌, map, drop, length, take, get_or, Some, None, Ok, Err, Option, Result, sym, refl, ap, ◌∙◌, subst, arith, MatchResult}
-use Rattle.std.proofs.lemmas.List.{length-append, length-map, drop_at}
+-- One answer a line, forgetting, and that a line that is refused changes nothing. Assumes nothing.
+use Rattle.std.proofs.Common.{◌≡◌, ℕ, suc, ◌+◌, ◌<◌, List, [], ◌∷◌, ◌++◌, drop, length, get_or, Some, None, Ok, Err, Option, Result, sym, refl, ap, ◌∙◌, subst, arith}
+use Rattle.std.proofs.lemmas.List.{length-append}
 use Rattle.commands.specs.declared.Command.{Command}
 use Rattle.commands.specs.declared.Command.TheVariants as commands
 use Rattle.commands.specs.declared.LineFault.{LineFault}
 use Rattle.commands.specs.Lines.{written}
 use Rattle.commands.specs.Reading.{arguments, by_column, made, one, read}
-use Rattle.elements.specs.declared.cards.CardFault.{CardFault}
 use Rattle.elements.specs.declared.element.Element.{Element}
 use Rattle.faults.specs.declared.JobFault.{JobFault}
-use Rattle.faults.specs.declared.JobFault.TheVariants as fault_of
-use Rattle.laws.specs.Sums.{HeightsAtMost}
 use Rattle.limits.specs.declared.fault.Fault.{Fault}
-use Rattle.limits.specs.declared.fault.Fault.TheVariants.{Side}
 use Rattle.limits.specs.Faults.{tells}
-use Rattle.morphology.specs.Cells.{cut}
 use Rattle.pictures.specs.declared.Picture.{Picture}
-use Rattle.pictures.specs.declared.PictureFault.{PictureFault}
-use Rattle.pictures.specs.Headers.{LawfulSide, header}
-use Rattle.pictures.specs.Reading as pictures
-use Rattle.pictures.proofs.Laws.{reads_back_pictures}
 use Rattle.text.specs.declared.Misfit.{Misfit}
 use Rattle.text.specs.Forms.{Reading, scan}
 use Rattle.model.specs.Calls.{Begin, SlipTold, Told}
@@ -28,105 +19,17 @@ use Rattle.runs.specs.Theorems.{HeightsTo}
 use Rattle.runs.proofs.FirstInOrder.{refusals_leave_the_bench}
 use Rattle.runs.proofs.RunLaws.{begun_same}
 use Rattle.jobs.specs.Answers.{answer_text}
-use Rattle.jobs.specs.Cards.{card_element}
-use Rattle.jobs.specs.Commands.{LineAnswer, answer_to, call_of, leaves_after, line_answer, line_leaves, lines_leave, open_flat, told_on_line}
+use Rattle.jobs.specs.Commands.{LineAnswer, answer_to, call_of, leaves_after, line_answer, lines_leave, open_flat, told_on_line}
 use Rattle.jobs.specs.Lines.{lines_of}
-use Rattle.jobs.specs.Runs.{after_card, after_picture, opened_bench, prepared, printed, printed_for, small_enough}
-use Rattle.jobs.specs.Theorems.{LineAnswerSum, ForgettingJobs, OneAnswerALine, PrintsAlike, Prints, RefusedLinesChangeNothing, SumsOfCutJobs}
-use Rattle.jobs.proofs.LineRuns.{OneRun, line_sums, lines_go, start}
+use Rattle.jobs.specs.Runs.{job_sizes, opened_bench, prepared}
+use Rattle.jobs.specs.Theorems.{ForgettingJobs, OneAnswerALine, PrintsAlike, Prints, RefusedLinesChangeNothing}
+use Rattle.jobs.proofs.Levels.{heights_back, levels_of, topped}
+use Rattle.jobs.proofs.LineRuns.{lines_go, start}
 use Rattle.jobs.proofs.Printing.{answer_after, answer_at, answer_within, is_accepted, is_refused, job_accepted, one_for_each, prints_answer}
 
+-- each line is printed as its answer
 pub one_answer_a_line : OneAnswerALine
 one_answer_a_line card file input element p accepted = (one_for_each card file input element p accepted, prints_answer card file input element p accepted)
-
--- heights up to a top as levels, and that they are these heights
-levels_of : (top : ℕ) (f : List ℕ) → HeightsAtMost top f → List (HeightsTo top)
-levels_of top [] topped = []
-levels_of top (x ∷ f) topped = (x, topped 0) ∷ levels_of top f (λ p. topped (suc p))
-
-heights_back : (top : ℕ) (f : List ℕ) (topped : HeightsAtMost top f) → map (λ (x : HeightsTo top). x.0) (levels_of top f topped) ≡ f
-unfolding levels_of
-heights_back top [] topped = refl
-heights_back top (x ∷ f) topped = ap (λ rest. x ∷ rest) (heights_back top f (λ p. topped (suc p)))
-
--- every list of heights has a top
-topped : (f : List ℕ) → (top : ℕ) × HeightsAtMost top f
-topped [] = (0, λ p. omega arith)
-topped (x ∷ f) = (max x (topped f).0, at (topped f).0 (topped f).1)
-  where
-    at : (top : ℕ) → HeightsAtMost top f → HeightsAtMost (max x top) (x ∷ f)
-    at top most zero = omega arith
-    at top most (suc p) = let h = most p in omega arith
-
--- the sizes of the bench of a job
-abbrev job_sizes : ℕ → ℕ → BenchSizes
-job_sizes w h = record {
-  rack = record { w = w; h = h; places = 4; memory = 6 * (w * h) };
-  slate = record { w = w; h = h; places = 1; memory = w * h };
-}
-
--- a job is accepted with the picture that its file reads as
-picture_read : (c : Result Element CardFault) (r : Result Picture PictureFault) (element : Element) (p : Picture) → after_card c r ≡ Ok (element, p) → r ≡ Ok p
-picture_read (Ok e) (Ok q) element p h = ap Ok (small (leb q.width 96 && leb q.height 96) h)
-  where
-    small : (fits : Bool) → cond {A = Result (Element × Picture) JobFault} fits (Ok (e, q)) (Err (fault_of.Bench Side)) ≡ Ok (element, p) → q ≡ p
-    small true same = let pair : ◌≡◌ {A = Element × Picture} (e, q) (element, p) = cc (same) in ap (λ (x : Element × Picture). x.1) pair
-    small false same = absurd (let z : ◌≡◌ {A = ℕ} 0 1 = cc in omega arith)
-picture_read (Ok e) (Err fault) element p h = absurd (let z : ◌≡◌ {A = ℕ} 0 1 = cc in omega arith)
-picture_read (Err fault) r element p h = absurd (let z : ◌≡◌ {A = ℕ} 0 1 = cc in omega arith)
-
--- a job beside those of its picture cut at each height
-module _ (card input : List ℕ) (w h : ℕ) (cells : List ℕ) (wide : LawfulSide w) (tall : LawfulSide h) (long : length cells ≡ w * h) (low : HeightsAtMost 255 cells) where
-  abbrev file : List ℕ → List ℕ
-  file of = header w h ++ of
-
-  cut_long : (a : ℕ) → length (cut a cells) ≡ w * h
-  cut_long a = length-map cells (λ x. cond (leb a x) 1 0) ∙ long
-
-  prepared_alike : (a : ℕ) → prepared card (file (cut a cells)) ≡ prepared card (file cells)
-  prepared_alike a = ap (after_card (card_element card)) (reads_back_pictures w h (cut a cells) wide tall (cut_long a) ∙ sym (reads_back_pictures w h cells wide tall long))
-
-  module _ (element : Element) (p : Picture) (accepted : prepared card (file cells) ≡ Ok (element, p)) (k : ℕ) where
-    cells_from : (of : List ℕ) → drop p.start (file of) ≡ of
-    cells_from of =
-        let is : ◌≡◌ {A = Result Picture PictureFault} (Ok (record { width = w; height = h; start = length (header w h) })) (Ok p)
-        = sym (reads_back_pictures w h cells wide tall long) ∙ picture_read (card_element card) (pictures.read (file cells)) element p accepted in
-        let same : ◌≡◌ {A = Picture} (record { width = w; height = h; start = length (header w h) }) p = cc (is) in
-        drop_at (header w h) of p.start (ap (λ (q : Picture). q.start) same)
-
-    cells_sum : let b = opened_bench p.width p.height in let lines = lines_of input in
-        LineAnswerSum 255 (answer_at element (drop p.start (file cells)) b lines k) (λ a. answer_at element (drop p.start (file (cut a cells))) b lines k)
-    cells_sum =
-        let b = opened_bench p.width p.height in
-        let lines = lines_of input in
-        let levels = levels_of 255 cells low in
-        let o = job_sizes p.width p.height in
-        let height = λ (x : HeightsTo 255). x.0 in
-        let back = heights_back 255 cells low in
-        subst (λ (x : List ℕ × (ℕ → List ℕ)). LineAnswerSum 255 (answer_at element x.0 b lines k) (λ a. answer_at element (x.1 a) b lines k))
-        (λ i. ((back ∙ sym (cells_from cells)) i, λ a. (ap (cut a) back ∙ sym (cells_from (cut a cells))) i))
-        (line_sums height 255 (λ x. x.1) element levels o (read (get_or lines k [])) _ _
-        (lines_go height 255 (λ x. x.1) element levels o (take k lines) b (λ a. b) (start height 255 (λ x. x.1) element levels o)))
-
--- a fact by how a job is prepared
-by_outcome : {T E : Type 0} (r : Result T E) (P : T → Type 0) (Q : E → Type 0) → ((x : T) → r ≡ Ok x → P x) → ((e : E) → r ≡ Err e → Q e) → MatchResult r P Q
-by_outcome (Ok x) P Q accepted refused = accepted x refl
-by_outcome (Err e) P Q accepted refused = refused e refl
-
-pub sums_of_cut_jobs : SumsOfCutJobs
-sums_of_cut_jobs card input w h cells wide tall long low =
-    let file = λ (of : List ℕ). header w h ++ of in
-    let alike = prepared_alike card input w h cells wide tall long low in
-    by_outcome (prepared card (file cells)) _ _
-    (λ job accepted k within.
-    let answered = λ (of : List ℕ). answer_at job.0 (drop job.1.start (file of)) (opened_bench job.1.width job.1.height) (lines_of input) k in (
-      answered cells,
-      (λ a. answered (cut a cells)),
-      prints_answer card (file cells) input job.0 job.1 accepted k within,
-      (λ a _. prints_answer card (file (cut a cells)) input job.0 job.1 (alike a ∙ accepted) k within),
-      cells_sum card input w h cells wide tall long low job.0 job.1 accepted k,
-    ))
-    (λ fault refused a _. ap (λ r. printed_for r (file (cut a cells)) input) (alike a ∙ refused) ∙ sym (ap (λ r. printed_for r (file cells) input) refused))
 
 -- two inputs for a card and a picture that are accepted: where the answers are the same, they are printed alike
 module _ (card file one other : List ℕ) (element : Element) (p : Picture) (accepted : prepared card file ≡ Ok (element, p)) where
@@ -139,7 +42,7 @@ module _ (card file one other : List ℕ) (element : Element) (p : Picture) (acc
   )
 
 module _ (element : Element) (picture : List ℕ) where
-  -- what a line that is refused leaves
+  -- a line that is refused leaves the bench, since its call is refused or it is no command
   call_refused : (r : Result Told Fault) (fault : JobFault) → told_on_line r ≡ Err fault → (f : Fault) × (r ≡ Err f)
   call_refused (Ok told) fault h = absurd (let z : ◌≡◌ {A = ℕ} 0 1 = cc in omega arith)
   call_refused (Err f) fault h = (f, refl)
@@ -170,6 +73,7 @@ module _ (element : Element) (picture : List ℕ) where
       (subst (λ x. answer x (Begin flat) ≡ Ok (SlipTold flat)) (run before).is one) (subst (λ x. answer x (Begin flat) ≡ Ok (SlipTold flat)) (run others).is two)
       ∙ sym (run others).is)
 
+  -- a `V` line that is accepted is such a begin
   slip_told : (o : Option Fault) (flat : ℕ) (ns : List ℕ) → told_on_line (tells o (SlipTold flat)) ≡ Ok ns → tells o (SlipTold flat) ≡ Ok (SlipTold flat)
   slip_told None flat ns h = refl
   slip_told (Some fault) flat ns h = absurd (let z : ◌≡◌ {A = ℕ} 0 1 = cc in omega arith)
@@ -183,12 +87,14 @@ module _ (element : Element) (picture : List ℕ) where
       begin_same o before others (get_or reading.numbers 0 0) (slip_told _ _ ns here) (slip_told _ _ ms there)
   begun o before others (Err misfit) ns ms here there = absurd (let z : ◌≡◌ {A = ℕ} 0 1 = cc in omega arith)
 
--- the answer of an accepted job to the line behind some others
+-- a line behind some others
 module _ (card file input : List ℕ) (before rest : List (List ℕ)) (line : List ℕ) (is : lines_of input ≡ before ++ (line ∷ rest)) where
+  -- how many lines there are
   long : length (lines_of input) ≡ length before + suc (length rest)
   long = ap length is ∙ length-append before (line ∷ rest)
 
   module _ (element : Element) (p : Picture) (accepted : prepared card file ≡ Ok (element, p)) where
+    -- the answers from there on are those of the bench that the lines before it leave
     behind : (k : ℕ) → answer_at element (drop p.start file) (opened_bench p.width p.height) (lines_of input) (length before + k)
         ≡ answer_at element (drop p.start file) (lines_leave element (drop p.start file) (opened_bench p.width p.height) before) (line ∷ rest) k
     behind k = ap (λ lines. answer_at element (drop p.start file) (opened_bench p.width p.height) lines (length before + k)) is
@@ -202,6 +108,7 @@ module _ (card file input : List ℕ) (before rest : List (List ℕ)) (line : Li
         ap (answer_text (length before + 1)) (sym (behind 0) ∙ ap (answer_at element (drop p.start file) (opened_bench p.width p.height) (lines_of input)) zero_behind)
         ∙ sym (prints_answer card file input element p accepted (length before) (omega (arith, long))) ∙ prints
 
+-- the two benches are the same behind the `V` line's place, and so all that follows is
 pub forgetting_jobs : ForgettingJobs
 forgetting_jobs card file one other before others last flat is_one is_other here there k within =
     let v = written (commands.Begin flat) in
@@ -218,6 +125,7 @@ forgetting_jobs card file one other before others last flat is_one is_other here
     ∙ ap (λ b. answer_at element picture b (v ∷ last) k) same
     ∙ sym (behind card file other others last v is_other element p accepted.1 k))
 
+-- the bench behind the line is that before it
 pub refused_lines_change_nothing : RefusedLinesChangeNothing
 refused_lines_change_nothing card file one other before rest line fault is_one is_other prints =
     let accepted = job_accepted (prepared card file) file one (length before) (Err fault) prints in

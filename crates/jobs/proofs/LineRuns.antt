@@ -49,6 +49,7 @@ numbers_sum top (SkeletonTold ns) tolds sum = no_numbers top tolds (λ a low. ap
 numbers_sum top (SheetTold f) tolds are = no_numbers top tolds (λ a low. ap numbers_told (are a low))
 numbers_sum top (TallyTold t) tolds sum = no_numbers top tolds (λ a low. ap numbers_told (sum.1 a low))
 
+-- and so the answers to lines do
 answers_sum : (top : ℕ) (told : Result Told Fault) (tolds : ℕ → Result Told Fault) → AnswerSum top told tolds
     → (cuts : ℕ → LineAnswer) → ((a : ℕ) → 1 ≤ a → cuts a ≡ told_on_line (tolds a)) → LineAnswerSum top (told_on_line told) cuts
 answers_sum top (Ok told) tolds sum cuts are =
@@ -62,8 +63,9 @@ module _ {X : Type 0} (height : X → ℕ) (top : ℕ) (bounded : (x : X) → he
     pub is : b ≡ bench_after height o calls
     pub are : (a : ℕ) → 1 ≤ a → cuts a ≡ mask_bench_after height a o calls
 
-  -- a command is a call that goes on with the run: the slips are of one flat, since the visits on all the benches are
+  -- A command on them all: the slips at hand are of one flat, since all benches have the same visit.
   module _ (command : Command) (b : Bench) (cuts : ℕ → Bench) (run : OneRun b cuts) where
+    -- the call, in heights and cut
     the_call : Call X
     the_call = call_of element levels (open_flat b) command
 
@@ -79,6 +81,7 @@ module _ {X : Type 0} (height : X → ℕ) (top : ℕ) (bounded : (x : X) → he
         call_kept (λ picture. cut a (map height picture)) element levels (open_flat b) command
         ∙ ap (λ flat. call_of element (cut a (map height levels)) flat command) (sym flats)
 
+    -- the run goes on with it
     command_goes : OneRun (leaves_after element (map height levels) b (Ok command)) (λ a. leaves_after element (cut a (map height levels)) (cuts a) (Ok command))
     command_goes = record {
       calls = run.calls ++ (the_call ∷ []);
@@ -86,6 +89,7 @@ module _ {X : Type 0} (height : X → ℕ) (top : ℕ) (bounded : (x : X) → he
       are = λ a low. (λ i. step (run.are a low i) (sym (cut_called a low) i)) ∙ one_more (cut_at height a) (bench_opened o) run.calls the_call;
     }
 
+    -- its answers sum up, by the theorem on runs
     command_sums : LineAnswerSum top (answer_to element (map height levels) b (Ok command)) (λ a. answer_to element (cut a (map height levels)) (cuts a) (Ok command))
     command_sums =
         let sums = (mask_sums height top bounded o (λ a. o) (λ a low. record { rack = refl; slate = refl }) run.calls the_call).1 in
@@ -107,6 +111,7 @@ module _ {X : Type 0} (height : X → ℕ) (top : ℕ) (bounded : (x : X) → he
   line_sums (Ok command) b cuts run = command_sums command b cuts run
   line_sums (Err fault) b cuts run = λ a low. refl
 
+  -- so the lines before any line are one run
   pub lines_go : (lines : List (List ℕ)) (b : Bench) (cuts : ℕ → Bench) → OneRun b cuts
       → OneRun (lines_leave element (map height levels) b lines) (λ a. lines_leave element (cut a (map height levels)) (cuts a) lines)
   lines_go [] b cuts run = run

@@ -1,7 +1,7 @@
 -- A command for an operation stands for the call of it, with the places that its numbers name. Assumes nothing.
-use Rattle.std.proofs.Common.{◌≡◌, ℕ, List, ℤ, map, Err, sym, refl, ap, ◌∙◌}
+use Rattle.std.proofs.Common.{◌≡◌, ℕ, List, map, Err, sym, refl, ap, ◌∙◌}
 use Rattle.bench.specs.Calls.{by_element, make_leaves, make_refusal}
-use Rattle.bench.specs.Model.{State, rack_state, slate_state}
+use Rattle.bench.specs.Model.{State, rack_state}
 use Rattle.commands.specs.declared.Command.{Command}
 use Rattle.commands.specs.declared.Command.TheVariants.{Erode, Dilate}
 use Rattle.elements.specs.declared.element.Element.{Element}

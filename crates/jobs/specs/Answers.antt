@@ -10,7 +10,7 @@ use Rattle.jobs.specs.Commands.{LineAnswer}
 abbrev pub one_or_none : Result (Option ℕ) JobFault → LineAnswer
 one_or_none = result_map_both option_to_list (λ fault. fault)
 
--- Of the line with that number: "=" with each number that is told after a blank, or "!" with the line's number and the fault. A newline follows.
+-- Success is "=" and each number that is told, after a blank; a fault is "!" with the line, the layer, the number and the place.
 abbrev pub answer_text : ℕ → LineAnswer → List ℕ
 answer_text line (Ok numbers) = codes "=" ++ spaced numbers
 answer_text line (Err fault) = codes "! " ++ (decimal line ++ (codes " " ++ fault_text fault))

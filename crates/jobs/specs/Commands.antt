@@ -45,10 +45,11 @@ numbers_told told = []
 abbrev pub LineAnswer : Type 0
 LineAnswer = Result (List ℕ) JobFault
 
+-- the answer to a line by the answer of its call
 abbrev pub told_on_line : Result Told Fault → LineAnswer
 told_on_line = result_map_both numbers_told fault_of.Bench
 
--- what a line answers, which is refused if it is no command
+-- what a line answers: a line that is no command is refused
 abbrev pub answer_to : Element → List ℕ → Bench → Result Command LineFault → LineAnswer
 answer_to element picture b (Ok command) = told_on_line (answer b (call_of element picture (open_flat b) command))
 answer_to element picture b (Err fault) = Err (fault_of.Line fault)
@@ -56,7 +57,7 @@ answer_to element picture b (Err fault) = Err (fault_of.Line fault)
 abbrev pub line_answer : Element → List ℕ → Bench → List ℕ → LineAnswer
 line_answer element picture b line = answer_to element picture b (read line)
 
--- what a line leaves of the bench, which stays as it is if the line is no command
+-- what a line leaves of the bench: a line that is no command leaves it as it is
 abbrev pub leaves_after : Element → List ℕ → Bench → Result Command LineFault → Bench
 leaves_after element picture b (Ok command) = step b (call_of element picture (open_flat b) command)
 leaves_after element picture b (Err fault) = b

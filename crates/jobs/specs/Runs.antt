@@ -8,7 +8,7 @@ use Rattle.pictures.specs.Reading.{read}
 use Rattle.limits.specs.declared.fault.Fault.TheVariants.{Side}
 use Rattle.faults.specs.declared.JobFault.{JobFault}
 use Rattle.faults.specs.declared.JobFault.TheVariants as fault_of
-use Rattle.model.specs.Steps.{Bench, bench_opened}
+use Rattle.model.specs.Steps.{Bench, BenchSizes, bench_opened}
 use Rattle.jobs.specs.Answers.{answer_text}
 use Rattle.jobs.specs.Cards.{card_element}
 use Rattle.jobs.specs.Commands.{line_answer, line_leaves}
@@ -29,12 +29,16 @@ after_card (Err fault) picture = Err (fault_of.Card fault)
 abbrev pub prepared : List ℕ → List ℕ → Result (Element × Picture) JobFault
 prepared card file = after_card (card_element card) (read file)
 
--- the bench of a job as it opens: four sheet places and one tally, with just the memory that they need
-abbrev pub opened_bench : ℕ → ℕ → Bench
-opened_bench w h = bench_opened (record {
+-- the sizes of a job's bench: four sheet places and one tally, with just the memory that they need
+abbrev pub job_sizes : ℕ → ℕ → BenchSizes
+job_sizes w h = record {
   rack = record { w = w; h = h; places = 4; memory = 6 * (w * h) };
   slate = record { w = w; h = h; places = 1; memory = w * h };
-})
+}
+
+-- the bench as it opens
+abbrev pub opened_bench : ℕ → ℕ → Bench
+opened_bench w h = bench_opened (job_sizes w h)
 
 -- what is printed for the lines from line number k on: the answer to each, and a newline
 abbrev pub printed_lines : Element → List ℕ → Bench → ℕ → List (List ℕ) → List ℕ

@@ -1,4 +1,6 @@
-use Rattle.jobs.proofs.JobLaws.{forgetting_jobs, one_answer_a_line, refused_lines_change_nothing, sums_of_cut_jobs}
+-- The theorems over jobs.
+use Rattle.jobs.proofs.CutJobs.{sums_of_cut_jobs}
+use Rattle.jobs.proofs.JobLaws.{forgetting_jobs, one_answer_a_line, refused_lines_change_nothing}
 use Rattle.jobs.proofs.run.run_job.Goals as goal
 
 pub returns-in-Ok-clause-lines : goal.returns-in-Ok-clause-lines

@@ -9,3 +9,4 @@ pub mod Outcomes
 pub mod ChainOrRefusal
 pub mod ReadBack
 pub mod WrittenRecords
+pub mod CardFlags

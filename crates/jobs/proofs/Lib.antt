@@ -1,4 +1,10 @@
 pub mod Refusals
+pub mod Operations
 pub mod Slips
 pub mod Splitting
-pub mod Numbers
+pub mod CardElements
+pub mod Printing
+pub mod LineRuns
+pub mod Levels
+pub mod CutJobs
+pub mod JobLaws

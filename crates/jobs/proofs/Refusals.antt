@@ -1,25 +1,22 @@
--- What a refused call tells. Assumes nothing.
+-- What a line tells of its call. Assumes nothing.
 use Rattle.std.proofs.Common.{◌≡◌, ℕ, Some, None, Ok, Err, Option}
 use Rattle.limits.specs.declared.fault.Fault.{Fault}
 use Rattle.limits.specs.Faults.{tells, told}
 use Rattle.faults.specs.declared.JobFault.TheVariants.{Bench}
-use Rattle.jobs.specs.Commands.{answered}
+use Rattle.model.specs.Calls.{Told, AreaTold}
+use Rattle.model.specs.Steps.{telling}
+use Rattle.jobs.specs.Commands.{numbers_told, told_on_line}
 
--- a call that tells nothing but its refusal refuses as one that tells more
-pub refused_tells : (o : Option Fault) (e : Fault) (x : Option ℕ) → Err e ≡ told o → Err e ≡ tells o x
-refused_tells None e x h = cc
-refused_tells (Some f) e x h = cc
+-- a call that is refused is so on its line, whatever it would tell
+pub refused_on_line : (o : Option Fault) (e : Fault) (x : Told) → Err e ≡ told o → Err (Bench e) ≡ told_on_line (tells o x)
+refused_on_line None e x h = cc
+refused_on_line (Some f) e x h = cc
 
--- the call for an area refuses as the command that asks for it
-pub refused_area : (o : Option Fault) (e : Fault) (n : ℕ) → Err e ≡ tells o n → Err e ≡ tells o (Some n)
+pub refused_area : (o : Option Fault) (e : Fault) (n : ℕ) → Err e ≡ tells o n → Err (Bench e) ≡ told_on_line (telling AreaTold (tells o n))
 refused_area None e n h = cc
 refused_area (Some f) e n h = cc
 
--- the answer to a command is what its call tells, and a refusal is one of the bench
-pub told_answered : (o : Option Fault) (told x : Option ℕ) → Ok told ≡ tells o x → Ok told ≡ answered o x
-told_answered None told x h = cc
-told_answered (Some f) told x h = cc
-
-pub refused_answered : (o : Option Fault) (e : Fault) (x : Option ℕ) → Err e ≡ tells o x → Err (Bench e) ≡ answered o x
-refused_answered None e x h = cc
-refused_answered (Some f) e x h = cc
+-- a call that is accepted tells its numbers
+pub accepted_on_line : (o : Option Fault) (x : Told) → Ok tt ≡ told o → Ok (numbers_told x) ≡ told_on_line (tells o x)
+accepted_on_line None x h = cc
+accepted_on_line (Some f) x h = cc

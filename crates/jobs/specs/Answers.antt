@@ -1,14 +1,16 @@
 -- What is printed for an answer. Assumes nothing.
-use Rattle.std.specs.Prelude.{ℕ, List, ◌++◌, Some, None, Ok, Err, codes, decimal, Option, Result}
+use Rattle.std.specs.Prelude.{ℕ, List, ◌++◌, Ok, Err, codes, decimal, Option, Result, option_to_list}
+use Rattle.std.specs.Result.{result_map_both}
+use Rattle.commands.specs.Lines.{spaced}
 use Rattle.faults.specs.declared.JobFault.{JobFault}
-use Rattle.faults.specs.Faults.{fault_layer, job_fault_number, job_fault_place}
+use Rattle.faults.specs.Faults.{fault_text}
+use Rattle.jobs.specs.Commands.{LineAnswer}
 
--- success is "=" with the number that was told, if one was; a fault is "!" with the line, the layer, the number and the place
-abbrev pub answer_line_lem : ℕ → Result (Option ℕ) JobFault → List ℕ
-answer_line_lem line (Ok None) = codes "=\n"
-answer_line_lem line (Ok (Some n)) = codes "= " ++ (decimal n ++ codes "\n")
-answer_line_lem line (Err f) =
-    codes "! " ++ (decimal line
-    ++ (codes " " ++ (fault_layer f
-    ++ (codes " " ++ (decimal (job_fault_number f)
-    ++ (codes " " ++ (decimal (job_fault_place f) ++ codes "\n")))))))
+-- the answer to a line that tells one number or none
+abbrev pub one_or_none : Result (Option ℕ) JobFault → LineAnswer
+one_or_none = result_map_both option_to_list (λ fault. fault)
+
+-- Success is "=" and each number that is told, after a blank; a fault is "!" with the line, the layer, the number and the place.
+abbrev pub answer_text : ℕ → LineAnswer → List ℕ
+answer_text line (Ok numbers) = codes "=" ++ spaced numbers
+answer_text line (Err fault) = codes "! " ++ (decimal line ++ (codes " " ++ fault_text fault))

@@ -1,8 +1,7 @@
--- What each command of a job asks of the bench: what it is refused, what it tells and what it leaves. Assumes nothing.
-use Rattle.std.specs.Prelude.{ℕ, List, length, ℤ, Some, None, Ok, Err, Option, Result}
-use Rattle.std.specs.Option.{unwrap_or}
-use Rattle.morphology.specs.Sheets.{area}
-use Rattle.morphology.specs.declared.operation.Operation.TheVariants.{Erosion, Dilation}
+-- The call on the bench that a command stands for, and what a line answers and leaves. Assumes nothing.
+use Rattle.std.specs.Prelude.{ℕ, List, [], ◌∷◌, Ok, Err, Result, unwrap_or}
+use Rattle.std.specs.Result.{result_map_both}
+use Rattle.elements.specs.declared.element.Element.{Element}
 use Rattle.commands.specs.declared.Command.{Command}
 use Rattle.commands.specs.declared.Command.TheVariants.{Begin, Load, Erode, Dilate, Area, End}
 use Rattle.commands.specs.declared.LineFault.{LineFault}
@@ -12,77 +11,61 @@ use Rattle.levels.specs.Gray.{gray_height}
 use Rattle.limits.specs.declared.fault.Fault.{Fault}
 use Rattle.bench.specs.declared.rack.Rack.{Rack}
 use Rattle.bench.specs.declared.slate.Slate.{Slate}
-use Rattle.bench.specs.Model.{State, Tally, rack_state, sheet_of, slate_state}
-use Rattle.bench.specs.Calls.{begin_leaves, begin_refusal, by_element, end_leaves, end_refusal, load_refusal, load_leaves, make_leaves, make_refusal, sheet_refusal}
+use Rattle.bench.specs.Model.{rack_state, slate_state}
 use Rattle.faults.specs.declared.JobFault.{JobFault}
-use Rattle.faults.specs.declared.JobFault.TheVariants.{Bench, Line}
-
--- the bench of a job: its rack and its slate
-pub record Benches : Type 0 where
-  pub rack : State (List ℕ)
-  pub slate : State Tally
+use Rattle.faults.specs.declared.JobFault.TheVariants as fault_of
+use Rattle.model.specs.Calls as calls
+use Rattle.model.specs.Calls.{Call, Told, AreaTold, SpectrumTold}
+use Rattle.model.specs.Steps.{Bench, answer, step}
 
 -- the bench of a rack and a slate
-abbrev pub benches : Rack Gray → Slate → Benches
-benches rack slate = record { rack = rack_state gray_height rack; slate = slate_state slate }
+abbrev pub bench_of : Rack Gray → Slate → Bench
+bench_of rack slate = record { rack = rack_state gray_height rack; slate = slate_state slate }
 
--- the refusal of a command, if any; the slip that end gets is that of the open visit, and 0 stands for none
-abbrev pub command_refusal : List ℕ → Benches → Command → Option Fault
-command_refusal picture b (Begin flat) = begin_refusal b.rack.outline b.slate.outline flat
-command_refusal picture b (Load place) = load_refusal b.rack.outline place (length picture)
-command_refusal picture b (Erode from to) = make_refusal b.rack.outline from from to
-command_refusal picture b (Dilate from to) = make_refusal b.rack.outline from from to
-command_refusal picture b (Area place) = sheet_refusal b.rack.outline place
-command_refusal picture b End = end_refusal b.rack.outline b.slate.outline (unwrap_or b.rack.outline.visit 0)
+-- the flat of the open visit, and 0 where none is open
+abbrev pub open_flat : Bench → ℕ
+open_flat b = unwrap_or b.rack.outline.visit 0
 
--- the number that an accepted command tells, if it tells one
-abbrev pub command_tells : Benches → Command → Option ℕ
-command_tells b (Begin flat) = None
-command_tells b (Load place) = None
-command_tells b (Erode from to) = None
-command_tells b (Dilate from to) = None
-command_tells b (Area place) = Some (area (sheet_of b.rack place))
-command_tells b End = None
+-- the call that a command stands for, with the card's element, the job's picture, and the flat of the slip at hand
+abbrev pub call_of : {X : Type 0} → Element → List X → ℕ → Command → Call X
+call_of element picture on_slip (Begin flat) = calls.Begin flat
+call_of element picture on_slip (Load place) = calls.Load place picture
+call_of element picture on_slip (Erode from to) = calls.Erode element from to
+call_of element picture on_slip (Dilate from to) = calls.Dilate element from to
+call_of element picture on_slip (Area place) = calls.Area place
+call_of element picture on_slip End = calls.End on_slip
 
--- the answer to a command
-abbrev pub answered : Option Fault → Option ℕ → Result (Option ℕ) JobFault
-answered None told = Ok told
-answered (Some fault) told = Err (Bench fault)
+-- the numbers that a line tells of what its call tells: an area, or the entries of a spectrum
+abbrev pub numbers_told : Told → List ℕ
+numbers_told (AreaTold area) = area ∷ []
+numbers_told (SpectrumTold entries) = entries
+numbers_told told = []
 
-abbrev pub command_answer : List ℕ → Benches → Command → Result (Option ℕ) JobFault
-command_answer picture b command = answered (command_refusal picture b command) (command_tells b command)
+-- the answer to a line: the numbers that it tells, or a fault
+abbrev pub LineAnswer : Type 0
+LineAnswer = Result (List ℕ) JobFault
 
--- the bench after a command, by an element of these offsets
-abbrev pub command_leaves : List (ℤ × ℤ) → List ℕ → Benches → Command → Benches
-command_leaves offsets picture b (Begin flat) =
-    record {
-      rack = begin_leaves b.rack.outline b.slate.outline flat b.rack;
-      slate = begin_leaves b.rack.outline b.slate.outline flat b.slate;
-    }
-command_leaves offsets picture b (Load place) = record { rack = load_leaves b.rack place picture; slate = b.slate }
-command_leaves offsets picture b (Erode from to) =
-    record { rack = make_leaves (by_element Erosion offsets) b.rack from from to; slate = b.slate }
-command_leaves offsets picture b (Dilate from to) =
-    record { rack = make_leaves (by_element Dilation offsets) b.rack from from to; slate = b.slate }
-command_leaves offsets picture b (Area place) = b
-command_leaves offsets picture b End =
-    let flat = unwrap_or b.rack.outline.visit 0 in
-    record {
-      rack = end_leaves b.rack.outline b.slate.outline flat b.rack;
-      slate = end_leaves b.rack.outline b.slate.outline flat b.slate;
-    }
+-- the answer to a line by the answer of its call
+abbrev pub told_on_line : Result Told Fault → LineAnswer
+told_on_line = result_map_both numbers_told fault_of.Bench
 
--- the answer to a line, and the bench after it: a line that is no command is refused and leaves the bench as it is
-abbrev pub answer_to : List ℕ → Benches → Result Command LineFault → Result (Option ℕ) JobFault
-answer_to picture b (Ok command) = command_answer picture b command
-answer_to picture b (Err fault) = Err (Line fault)
+-- what a line answers: a line that is no command is refused
+abbrev pub answer_to : Element → List ℕ → Bench → Result Command LineFault → LineAnswer
+answer_to element picture b (Ok command) = told_on_line (answer b (call_of element picture (open_flat b) command))
+answer_to element picture b (Err fault) = Err (fault_of.Line fault)
 
-abbrev pub line_answer : List ℕ → Benches → List ℕ → Result (Option ℕ) JobFault
-line_answer picture b line = answer_to picture b (read line)
+abbrev pub line_answer : Element → List ℕ → Bench → List ℕ → LineAnswer
+line_answer element picture b line = answer_to element picture b (read line)
 
-abbrev pub leaves_after : List (ℤ × ℤ) → List ℕ → Benches → Result Command LineFault → Benches
-leaves_after offsets picture b (Ok command) = command_leaves offsets picture b command
-leaves_after offsets picture b (Err fault) = b
+-- what a line leaves of the bench: a line that is no command leaves it as it is
+abbrev pub leaves_after : Element → List ℕ → Bench → Result Command LineFault → Bench
+leaves_after element picture b (Ok command) = step b (call_of element picture (open_flat b) command)
+leaves_after element picture b (Err fault) = b
 
-abbrev pub line_leaves : List (ℤ × ℤ) → List ℕ → Benches → List ℕ → Benches
-line_leaves offsets picture b line = leaves_after offsets picture b (read line)
+abbrev pub line_leaves : Element → List ℕ → Bench → List ℕ → Bench
+line_leaves element picture b line = leaves_after element picture b (read line)
+
+-- what some lines leave of the bench, one after another
+abbrev pub lines_leave : Element → List ℕ → Bench → List (List ℕ) → Bench
+lines_leave element picture b [] = b
+lines_leave element picture b (line ∷ lines) = lines_leave element picture (line_leaves element picture b line) lines

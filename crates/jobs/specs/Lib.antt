@@ -1,4 +1,6 @@
-pub mod Answers
-pub mod Commands
 pub mod Lines
+pub mod Cards
+pub mod Commands
+pub mod Answers
 pub mod Runs
+pub mod Theorems

@@ -1,50 +1,57 @@
 -- The run of a job: what is printed for the bytes of a card, a picture file and job lines. Assumes nothing.
-use Rattle.std.specs.Prelude.{ℕ, ◌+◌, Bool, cond, ◌&&◌, List, [], ◌∷◌, ◌++◌, drop, ℤ, Ok, Err, Result, nat_le}
+use Rattle.std.specs.Prelude.{ℕ, ◌+◌, ◌*◌, cond, ◌&&◌, List, [], ◌∷◌, ◌++◌, codes, drop, Ok, Err, Result, nat_le}
 use Rattle.elements.specs.declared.cards.CardFault.{CardFault}
-use Rattle.elements.specs.Cards.{card_flags}
-use Rattle.elements.specs.Offsets.{flagged}
+use Rattle.elements.specs.declared.element.Element.{Element}
 use Rattle.pictures.specs.declared.Picture.{Picture}
 use Rattle.pictures.specs.declared.PictureFault.{PictureFault}
 use Rattle.pictures.specs.Reading.{read}
 use Rattle.limits.specs.declared.fault.Fault.TheVariants.{Side}
-use Rattle.bench.specs.Calls.{opened}
 use Rattle.faults.specs.declared.JobFault.{JobFault}
-use Rattle.faults.specs.declared.JobFault.TheVariants as job
-use Rattle.jobs.specs.Answers.{answer_line_lem}
-use Rattle.jobs.specs.Commands.{Benches, line_answer, line_leaves}
+use Rattle.faults.specs.declared.JobFault.TheVariants as fault_of
+use Rattle.model.specs.Steps.{Bench, BenchSizes, bench_opened}
+use Rattle.jobs.specs.Answers.{answer_text}
+use Rattle.jobs.specs.Cards.{card_element}
+use Rattle.jobs.specs.Commands.{line_answer, line_leaves}
 use Rattle.jobs.specs.Lines.{lines_of}
 
--- what is printed for the lines from line number k on, by an element of these offsets, with that picture to load
-abbrev pub run_lines_lem : List (ℤ × ℤ) → List ℕ → Benches → ℕ → List (List ℕ) → List ℕ
-run_lines_lem offsets picture b k [] = []
-run_lines_lem offsets picture b k (line ∷ lines) =
-    answer_line_lem k (line_answer picture b line) ++ run_lines_lem offsets picture (line_leaves offsets picture b line) (k + 1) lines
+-- Card, picture and sides, in this order: the element and the picture, or the first fault. The program's sides are at most 96.
+abbrev pub small_enough : Element → Picture → Result (Element × Picture) JobFault
+small_enough element p = cond (nat_le p.width 96 && nat_le p.height 96) (Ok (element, p)) (Err (fault_of.Bench Side))
 
--- Card, picture and sides, in this order: the flags of the element and the picture, or the first fault.
--- The program's sides are at most 96.
-abbrev pub small_enough : List Bool → Picture → Result (List Bool × Picture) JobFault
-small_enough flags p = cond (nat_le p.width 96 && nat_le p.height 96) (Ok (flags, p)) (Err (job.Bench Side))
+abbrev pub after_picture : Element → Result Picture PictureFault → Result (Element × Picture) JobFault
+after_picture element (Ok p) = small_enough element p
+after_picture element (Err fault) = Err (fault_of.Picture fault)
 
-abbrev pub with_picture : List Bool → Result Picture PictureFault → Result (List Bool × Picture) JobFault
-with_picture flags (Ok p) = small_enough flags p
-with_picture flags (Err fault) = Err (job.Picture fault)
+abbrev pub after_card : Result Element CardFault → Result Picture PictureFault → Result (Element × Picture) JobFault
+after_card (Ok element) picture = after_picture element picture
+after_card (Err fault) picture = Err (fault_of.Card fault)
 
-abbrev pub with_card : Result (List Bool) CardFault → List ℕ → Result (List Bool × Picture) JobFault
-with_card (Ok flags) file = with_picture flags (read file)
-with_card (Err fault) file = Err (job.Card fault)
+abbrev pub prepared : List ℕ → List ℕ → Result (Element × Picture) JobFault
+prepared card file = after_card (card_element card) (read file)
 
-abbrev pub prepared : List ℕ → List ℕ → Result (List Bool × Picture) JobFault
-prepared card file = with_card (card_flags card) file
+-- the sizes of a job's bench: four sheet places and one tally, with just the memory that they need
+abbrev pub job_sizes : ℕ → ℕ → BenchSizes
+job_sizes w h = record {
+  rack = record { w = w; h = h; places = 4; memory = 6 * (w * h) };
+  slate = record { w = w; h = h; places = 1; memory = w * h };
+}
 
--- the bench of a job as it opens: four sheet places and one tally
-abbrev pub opened_bench : ℕ → ℕ → Benches
-opened_bench w h = record { rack = opened w h 4; slate = opened w h 1 }
+-- the bench as it opens
+abbrev pub opened_bench : ℕ → ℕ → Bench
+opened_bench w h = bench_opened (job_sizes w h)
+
+-- what is printed for the lines from line number k on: the answer to each, and a newline
+abbrev pub printed_lines : Element → List ℕ → Bench → ℕ → List (List ℕ) → List ℕ
+printed_lines element picture b k [] = []
+printed_lines element picture b k (line ∷ lines) =
+    answer_text k (line_answer element picture b line)
+    ++ (codes "\n" ++ printed_lines element picture (line_leaves element picture b line) (k + 1) lines)
 
 -- what is printed: for each line its answer, or the fault of card, picture or sides alone, with line 0
-abbrev pub printed_for : Result (List Bool × Picture) JobFault → List ℕ → List ℕ → List ℕ
-printed_for (Ok (flags, p)) file input =
-    run_lines_lem (flagged 0 flags) (drop p.start file) (opened_bench p.width p.height) 1 (lines_of input)
-printed_for (Err fault) file input = answer_line_lem 0 (Err fault)
+abbrev pub printed_for : Result (Element × Picture) JobFault → List ℕ → List ℕ → List ℕ
+printed_for (Ok (element, p)) file input =
+    printed_lines element (drop p.start file) (opened_bench p.width p.height) 1 (lines_of input)
+printed_for (Err fault) file input = answer_text 0 (Err fault) ++ codes "\n"
 
 abbrev pub printed : List ℕ → List ℕ → List ℕ → List ℕ
 printed card file input = printed_for (prepared card file) file input

@@ -1,6 +1,6 @@
 // The printed line of an answer.
-ghost use Rattle.std.specs.Prelude.{◌≡◌, IfOk, string_bytes};
-ghost use Rattle.jobs.specs.Answers.{answer_line_lem};
+ghost use Rattle.std.specs.Prelude.{◌≡◌, ◌++◌, IfOk, codes, string_bytes};
+ghost use Rattle.jobs.specs.Answers.{answer_text, one_or_none};
 
 use faults::JobFault;
 use std::alloc::{AllocError, Global};
@@ -11,7 +11,7 @@ pub(crate) fn answer_line(
     line: usize,
     answer: Result<Option<u64>, JobFault>,
 ) -> Result<String, AllocError>
-    ensures { IfOk result (λ s. string_bytes s ≡ answer_line_lem line answer) }
+    ensures { IfOk result (λ s. string_bytes s ≡ answer_text line (one_or_none answer) ++ codes "\n") }
 {
     // Not the `Answer` of cases: a job's refusal has a line, a layer and a place.
     match answer {

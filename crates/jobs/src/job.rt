@@ -1,9 +1,11 @@
 // A job: what each command and each line does.
-ghost use Rattle.std.specs.Prelude.{◌≡◌, map};
-ghost use Rattle.elements.specs.Elements.{offsets};
-ghost use Rattle.jobs.specs.Commands.{benches, command_leaves, command_refusal, command_tells, line_answer, line_leaves};
+ghost use Rattle.std.specs.Prelude.{◌≡◌, map, option_to_list};
+ghost use Rattle.std.specs.Result.{result_map_both};
+ghost use Rattle.faults.specs.declared.JobFault.TheVariants as fault_of;
+ghost use Rattle.jobs.specs.Answers.{one_or_none};
+ghost use Rattle.jobs.specs.Commands.{bench_of, call_of, line_answer, line_leaves, open_flat, told_on_line};
 ghost use Rattle.levels.specs.Gray.{gray_height};
-ghost use Rattle.limits.specs.Faults.{tells};
+ghost use Rattle.model.specs.Steps.{answer, step};
 
 use crate::visits::JobBench;
 use commands::{Command, read_line};
@@ -21,14 +23,16 @@ pub(crate) struct Job<'a, 'b, 'c> {
 
 impl Job<'_, '_, '_> {
     // Does a command, and tells the area where that is asked.
-    #[tactic(auto, using(crate::proofs::Numbers::operation_refused, crate::proofs::Slips::still_held, crate::proofs::Refusals::refused_tells, crate::proofs::Refusals::refused_area))]
+    #[tactic(auto, using(crate::proofs::Operations::operation_refused, crate::proofs::Slips::still_held, crate::proofs::Refusals::refused_on_line, crate::proofs::Refusals::refused_area, crate::proofs::Refusals::accepted_on_line))]
     fn perform(&mut self, command: Command) -> Result<Option<u64>, Fault>
-        ensures answers { result ≡ tells
-            (command_refusal (map gray_height self.old.picture.now) (benches self.old.bench.rack self.old.bench.slate) command)
-            (command_tells (benches self.old.bench.rack self.old.bench.slate) command) }
-        ensures steps { benches self.new.bench.rack self.new.bench.slate ≡
-            command_leaves (offsets self.old.element) (map gray_height self.old.picture.now)
-            (benches self.old.bench.rack self.old.bench.slate) command }
+        ensures answers { result_map_both option_to_list fault_of.Bench result ≡ told_on_line
+            (answer (bench_of self.old.bench.rack self.old.bench.slate)
+            (call_of self.old.element (map gray_height self.old.picture.now)
+            (open_flat (bench_of self.old.bench.rack self.old.bench.slate)) command)) }
+        ensures steps { bench_of self.new.bench.rack self.new.bench.slate ≡
+            step (bench_of self.old.bench.rack self.old.bench.slate)
+            (call_of self.old.element (map gray_height self.old.picture.now)
+            (open_flat (bench_of self.old.bench.rack self.old.bench.slate)) command) }
         ensures element { self.new.element ≡ self.old.element }
         ensures picture { self.new.picture.now ≡ self.old.picture.now }
     {
@@ -55,11 +59,12 @@ impl Job<'_, '_, '_> {
 
     // Does what a line says.
     pub(crate) fn obey(&mut self, line: &[u8]) -> Result<Option<u64>, JobFault>
-        ensures answers { result ≡
-            line_answer (map gray_height self.old.picture.now) (benches self.old.bench.rack self.old.bench.slate) line.now }
-        ensures steps { benches self.new.bench.rack self.new.bench.slate ≡
-            line_leaves (offsets self.old.element) (map gray_height self.old.picture.now)
-            (benches self.old.bench.rack self.old.bench.slate) line.now }
+        ensures answers { one_or_none result ≡
+            line_answer self.old.element (map gray_height self.old.picture.now)
+            (bench_of self.old.bench.rack self.old.bench.slate) line.now }
+        ensures steps { bench_of self.new.bench.rack self.new.bench.slate ≡
+            line_leaves self.old.element (map gray_height self.old.picture.now)
+            (bench_of self.old.bench.rack self.old.bench.slate) line.now }
         ensures element { self.new.element ≡ self.old.element }
         ensures picture { self.new.picture.now ≡ self.old.picture.now }
     {

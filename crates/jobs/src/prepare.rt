@@ -21,7 +21,7 @@ pub(crate) struct Prepared {
 // The element of a card and the picture of a file, or the first fault: the card's, the picture's, then a side above 96.
 pub(crate) fn prepare(card: &[u8], file: &[u8]) -> Result<Prepared, JobFault>
     ensures answers { MatchResult result
-        (λ x. prepared card.now file.now ≡ Ok (x.element.flags, record { width = x.sides.w; height = x.sides.h; start = x.start }))
+        (λ x. prepared card.now file.now ≡ Ok (x.element, record { width = x.sides.w; height = x.sides.h; start = x.start }))
         (λ fault. prepared card.now file.now ≡ Err fault) }
     ensures within { IfOk result (λ x. x.start ≤ length file.now) }
 {

@@ -1,10 +1,10 @@
 // The run of a job: from the bytes of a card, a picture file and job lines to the printed lines.
-ghost use Rattle.std.specs.Prelude.{◌≡◌, ◌++◌, map, IfOk, string_bytes, OnOk};
-ghost use Rattle.elements.specs.Elements.{offsets};
-ghost use Rattle.jobs.specs.Answers.{answer_line_lem};
-ghost use Rattle.jobs.specs.Commands.{benches};
+ghost use Rattle.std.specs.Prelude.{◌≡◌, ◌++◌, codes, map, IfOk, string_bytes, OnOk};
+ghost use Rattle.jobs.specs.Answers.{answer_text, one_or_none};
+ghost use Rattle.jobs.specs.Commands.{bench_of};
 ghost use Rattle.jobs.specs.Lines.{lines_of};
-ghost use Rattle.jobs.specs.Runs.{opened_bench, printed, run_lines_lem};
+ghost use Rattle.jobs.specs.Runs.{opened_bench, printed, printed_lines};
+ghost use Rattle.jobs.specs.Theorems.{ForgettingJobs, OneAnswerALine, RefusedLinesChangeNothing, SumsOfCutJobs};
 ghost use Rattle.levels.specs.Gray.{gray_height};
 
 use crate::answers::answer_line;
@@ -25,7 +25,7 @@ fn print_answer(
     answer: Result<Option<u64>, JobFault>,
     out: &mut String,
 ) -> Result<(), AllocError>
-    ensures { OnOk result (string_bytes out.new ≡ string_bytes out.old ++ answer_line_lem line answer) }
+    ensures { OnOk result (string_bytes out.new ≡ string_bytes out.old ++ (answer_text line (one_or_none answer) ++ codes "\n")) }
 {
     let text = answer_line(heap, line, answer)?;
     out.push_str(text.as_str())
@@ -34,8 +34,8 @@ fn print_answer(
 // Obeys the lines of an input one after another.
 fn run_lines(heap: Global, job: &mut Job<'_, '_, '_>, input: &[u8]) -> Result<String, AllocError>
     ensures { IfOk result (λ out. string_bytes out ≡
-        run_lines_lem (offsets job.old.element) (map gray_height job.old.picture.now)
-        (benches job.old.bench.rack job.old.bench.slate) 1 (lines_of input.now)) }
+        printed_lines job.old.element (map gray_height job.old.picture.now)
+        (bench_of job.old.bench.rack job.old.bench.slate) 1 (lines_of input.now)) }
 {
     let mut out = String::new(heap);
     for (index, line) in Lines(input).enumerate() {
@@ -55,7 +55,7 @@ fn run_picture(
     input: &[u8],
 ) -> Result<String, AllocError>
     ensures { IfOk result (λ out. string_bytes out ≡
-        run_lines_lem (offsets element) cells.now (opened_bench sides.w sides.h) 1 (lines_of input.now)) }
+        printed_lines element cells.now (opened_bench sides.w sides.h) 1 (lines_of input.now)) }
 {
     let picture = gray_levels(heap, cells)?;
     let mut levels = vec![in heap; Gray::new(0); 6 * sides.cells()]?;
@@ -89,7 +89,11 @@ fn run_picture(
 /// A fault of the card, of the picture or a side above 96 is printed with line 0, and is then all; else there is an
 /// answer for each line. Errs only for want of memory.
 pub fn run_job(heap: Global, card: &[u8], file: &[u8], input: &[u8]) -> Result<String, AllocError>
-    ensures { IfOk result (λ out. string_bytes out ≡ printed card.now file.now input.now) }
+    ensures printed { IfOk result (λ out. string_bytes out ≡ printed card.now file.now input.now) }
+    ensures lines { OneAnswerALine }
+    ensures sums { SumsOfCutJobs }
+    ensures forgetting { ForgettingJobs }
+    ensures refused { RefusedLinesChangeNothing }
 {
     match prepare(card, file) {
         Ok(job) => run_picture(heap, job.element, &file[job.start..], job.sides, input),

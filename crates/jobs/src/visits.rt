@@ -1,10 +1,9 @@
 // The bench of a job, and the visits on it.
 ghost use Rattle.std.specs.Prelude.{◌≡◌, ◌*◌, length, None};
-ghost use Rattle.std.specs.Option.{unwrap_or};
 ghost use Rattle.std.proofs.Props.{props};
 ghost use Rattle.bench.specs.Calls.{begin_leaves, begin_refusal, end_leaves, end_refusal};
 ghost use Rattle.bench.specs.Model.{rack_outline, rack_state, slate_outline, slate_state, slip_flat};
-ghost use Rattle.jobs.specs.Commands.{benches};
+ghost use Rattle.jobs.specs.Commands.{bench_of, open_flat};
 ghost use Rattle.jobs.specs.Runs.{opened_bench};
 ghost use Rattle.levels.specs.Gray.{gray_height};
 ghost use Rattle.limits.specs.Faults.{told};
@@ -33,7 +32,7 @@ impl<'a, 'b> JobBench<'a, 'b> {
     ) -> JobBench<'a, 'b>
         requires levels { length levels.old ≡ 6 * (sides.w * sides.h) }
         requires numbers { length numbers.old ≡ sides.w * sides.h }
-        ensures { benches result.rack result.slate ≡ opened_bench sides.w sides.h }
+        ensures { bench_of result.rack result.slate ≡ opened_bench sides.w sides.h }
     {
         let Sides { w, h } = sides;
         let rack = Rack::open(levels, w, h, 4);
@@ -65,13 +64,13 @@ impl JobBench<'_, '_> {
     // Ends the visit with the slip at hand; without one there is no visit.
     pub(crate) fn end(&mut self) -> Result<(), Fault>
         ensures answers { result ≡ told
-            (end_refusal (rack_outline self.old.rack) (slate_outline self.old.slate) (unwrap_or (rack_outline self.old.rack).visit 0)) }
+            (end_refusal (rack_outline self.old.rack) (slate_outline self.old.slate) (open_flat (bench_of self.old.rack self.old.slate))) }
         ensures rack_steps { rack_state gray_height self.new.rack ≡
             end_leaves (rack_outline self.old.rack) (slate_outline self.old.slate)
-            (unwrap_or (rack_outline self.old.rack).visit 0) (rack_state gray_height self.old.rack) }
+            (open_flat (bench_of self.old.rack self.old.slate)) (rack_state gray_height self.old.rack) }
         ensures slate_steps { slate_state self.new.slate ≡
             end_leaves (rack_outline self.old.rack) (slate_outline self.old.slate)
-            (unwrap_or (rack_outline self.old.rack).visit 0) (slate_state self.old.slate) }
+            (open_flat (bench_of self.old.rack self.old.slate)) (slate_state self.old.slate) }
         ensures spent { self.new.slip ≡ None }
     {
         let Some(slip) = self.slip.take() else {

@@ -1,5 +1,5 @@
 -- The theorems about whole runs. Assumes nothing.
-use Rattle.std.proofs.Common.{◌≡◌, ℕ, ◌+◌, ◌-◌, ◌*◌, ◌≤◌, true, false, ◌&&◌, suc, List, [], ◌∷◌, map, replicate, length, eqb, leb, ltb, None, sym, refl, ap, ◌∙◌, subst, arith}
+use Rattle.std.proofs.Common.{◌≡◌, ℕ, ◌+◌, ◌-◌, ◌*◌, ◌≤◌, true, false, ◌&&◌, suc, List, [], ◌∷◌, map, replicate, length, eqb, leb, ltb, None, Ok, sym, refl, ap, ◌∙◌, subst, arith}
 use Rattle.std.specs.List.{list_any}
 use Rattle.std.specs.Prelude.{drop, sum}
 use Rattle.std.proofs.lemmas.List.{length-replicate}
@@ -15,7 +15,7 @@ use Rattle.laws.specs.Sums.{HeightsAtMost}
 use Rattle.laws.proofs.ElementLaws.{erosion_and_dilation_are_pair}
 use Rattle.laws.proofs.Maps.{flat_times, flat_topped}
 use Rattle.runs.proofs.Calls.{skeletons_of, spectra_of}
-use Rattle.model.specs.Calls.{Begin, Skeleton, SkeletonTold, SlipTold, Spectrum, SpectrumTold}
+use Rattle.model.specs.Calls.{Begin, Call, Skeleton, SkeletonTold, SlipTold, Spectrum, SpectrumTold}
 use Rattle.model.specs.ByElement.{shrink, close, swell}
 use Rattle.model.specs.Steps.{Bench, BenchSizes, after, answer, bench_opened}
 use Rattle.runs.proofs.Parts.{answer_parts, refusal, told_by}
@@ -100,16 +100,23 @@ module _ {X : Type 0} (height : X → ℕ) (top : ℕ) (bounded : (x : X) → he
     slate = as_opened_same b.slate c.slate (r.slate_closed bs) (s.slate_closed cs) (r.slate_sizes ∙ alike.slate ∙ sym s.slate_sizes) i;
   }
 
-  pub forgetting : Forgetting height
-  forgetting o p alike before others flat one two calls next =
+  -- benches opened alike on which both a begin is accepted are the same
+  pub begun_same : (o p : BenchSizes) → OpenedAlike o p → (before others : List (Call X)) (flat : ℕ) →
+      let b = bench_after height o before in
+      let c = bench_after height p others in
+      answer b (Begin flat) ≡ Ok (SlipTold flat) → answer c (Begin flat) ≡ Ok (SlipTold flat) → b ≡ c
+  begun_same o p alike before others flat one two =
       let b = bench_after height o before in
       let c = bench_after height p others in
       let first = tells_ok (begin_refusal b.rack.outline b.slate.outline flat) (SlipTold flat) (SlipTold flat) one in
       let second = tells_ok (begin_refusal c.rack.outline c.slate.outline flat) (SlipTold flat) (SlipTold flat) two in
       let open_none = begin_closed b.rack.outline b.slate.outline flat first.0 in
       let other_none = begin_closed c.rack.outline c.slate.outline flat second.0 in
-      ap (λ x. answer (after x (map (in_heights height) (Begin flat ∷ calls))) (in_heights height next))
-      (closed_same o p alike b c (run_reached height top bounded o before) (run_reached height top bounded p others) open_none.0 open_none.1 other_none.0 other_none.1)
+      closed_same o p alike b c (run_reached height top bounded o before) (run_reached height top bounded p others) open_none.0 open_none.1 other_none.0 other_none.1
+
+  pub forgetting : Forgetting height
+  forgetting o p alike before others flat one two calls next =
+      ap (λ x. answer (after x (map (in_heights height) (Begin flat ∷ calls))) (in_heights height next)) (begun_same o p alike before others flat one two)
 
   pub tallies_within : TalliesWithinWeights height top
   tallies_within o calls place = (run_reached height top bounded o calls).tallies place

@@ -1,10 +1,9 @@
 use Rattle.std.proofs.Common.{◌≡◌, ◌+◌, ◌++◌, map, length, string_bytes}
 use Rattle.std.specs.Iterator.Adapters.{enumerate_source, enumerate_count}
-use Rattle.elements.specs.Elements.{offsets}
 use Rattle.levels.specs.Gray.{gray_height}
-use Rattle.jobs.specs.Commands.{benches}
+use Rattle.jobs.specs.Commands.{bench_of}
 use Rattle.jobs.specs.Lines.{lines_of}
-use Rattle.jobs.specs.Runs.{run_lines_lem}
+use Rattle.jobs.specs.Runs.{printed_lines}
 use Rattle.jobs.proofs.run.run_lines.Given as goal
 
 -- What is printed and what is still to come is what the whole input prints.
@@ -17,6 +16,6 @@ invariant-loop-index l =
       element : l.job.element ≡ l.initial.job.element;
       picture : l.job.picture.now ≡ l.initial.job.picture.now;
       printed :
-          string_bytes l.out ++ run_lines_lem (offsets l.initial.job.element) (map gray_height l.initial.job.picture.now) (benches l.job.bench.rack l.job.bench.slate) (k + 1) lines
-          ≡ run_lines_lem (offsets l.initial.job.element) (map gray_height l.initial.job.picture.now) (benches l.initial.job.bench.rack l.initial.job.bench.slate) 1 (lines_of l.input);
+          string_bytes l.out ++ printed_lines l.initial.job.element (map gray_height l.initial.job.picture.now) (bench_of l.job.bench.rack l.job.bench.slate) (k + 1) lines
+          ≡ printed_lines l.initial.job.element (map gray_height l.initial.job.picture.now) (bench_of l.initial.job.bench.rack l.initial.job.bench.slate) 1 (lines_of l.input);
     }

@@ -1,5 +1,10 @@
+use Rattle.std.proofs.Common.{Err, ap, ◌∙◌}
+use Rattle.std.proofs.lemmas.Result.{err_from_is_err_and}
+use Rattle.std.specs.Prelude.{option_to_list}
+use Rattle.std.specs.Result.{result_map_both}
+use Rattle.faults.specs.declared.JobFault.TheVariants as fault_of
 use Rattle.morphology.specs.declared.operation.Operation.TheVariants.{Erosion, Dilation}
-use Rattle.jobs.proofs.Numbers.{operation_leaves}
+use Rattle.jobs.proofs.Operations.{operation_leaves, operation_refused}
 use Rattle.jobs.proofs.Slips.{still_held}
 use Rattle.jobs.proofs.job.Job.perform.Goals as goal
 
@@ -8,6 +13,18 @@ invariant_of-bench-in-Erode c = still_held c.args.self.now.bench c.erode.new.sel
 
 pub invariant_of-bench-in-Dilate : goal.invariant_of-bench-in-Dilate
 invariant_of-bench-in-Dilate c = still_held c.args.self.now.bench c.dilate.new.self _ _ _ c.dilate.ensures.steps
+
+pub returns-in_err-erode-in-Erode-clause-answers : goal.returns-in_err-erode-in-Erode-clause-answers
+returns-in_err-erode-in-Erode-clause-answers c =
+    let back = err_from_is_err_and c.from_residual-in_err-erode-in-Erode.result c.from_residual-in_err-erode-in-Erode.ensures.1 in
+    ap (result_map_both option_to_list fault_of.Bench) (back.1 ∙ ap Err back.2)
+    ∙ operation_refused Erosion c.args.self.now c.args.command _ _ _ _ c.in-Erode.is c.from-in-Erode.ensures c.from-in-Erode-2.ensures _ c.in_err-erode-in-Erode.ensures.answers
+
+pub returns-in_err-dilate-in-Dilate-clause-answers : goal.returns-in_err-dilate-in-Dilate-clause-answers
+returns-in_err-dilate-in-Dilate-clause-answers c =
+    let back = err_from_is_err_and c.from_residual-in_err-dilate-in-Dilate.result c.from_residual-in_err-dilate-in-Dilate.ensures.1 in
+    ap (result_map_both option_to_list fault_of.Bench) (back.1 ∙ ap Err back.2)
+    ∙ operation_refused Dilation c.args.self.now c.args.command _ _ _ _ c.in-Dilate.is c.from-in-Dilate.ensures c.from-in-Dilate-2.ensures _ c.in_err-dilate-in-Dilate.ensures.answers
 
 pub returns-in_ok-erode-in-Erode-clause-steps : goal.returns-in_ok-erode-in-Erode-clause-steps
 returns-in_ok-erode-in-Erode-clause-steps c =

@@ -4,7 +4,7 @@ use Rattle.std.proofs.lemmas.List.{length-append}
 use Rattle.commands.specs.declared.Command.{Command}
 use Rattle.commands.specs.declared.Command.TheVariants as commands
 use Rattle.commands.specs.declared.LineFault.{LineFault}
-use Rattle.commands.specs.Lines.{written}
+use Rattle.commands.specs.Lines.{command_text}
 use Rattle.commands.specs.Reading.{arguments, by_column, made, one, read}
 use Rattle.elements.specs.declared.element.Element.{Element}
 use Rattle.faults.specs.declared.JobFault.{JobFault}
@@ -12,14 +12,15 @@ use Rattle.limits.specs.declared.fault.Fault.{Fault}
 use Rattle.limits.specs.Faults.{tells}
 use Rattle.pictures.specs.declared.Picture.{Picture}
 use Rattle.text.specs.declared.Misfit.{Misfit}
-use Rattle.text.specs.Forms.{Reading, scan}
+use Rattle.text.specs.Forms.{NumbersRead, scan}
 use Rattle.model.specs.Calls.{Begin, SlipTold, Told}
 use Rattle.model.specs.Steps.{Bench, BenchSizes, answer, bench_opened}
 use Rattle.runs.specs.Theorems.{HeightsTo}
 use Rattle.runs.proofs.FirstInOrder.{refusals_leave_the_bench}
 use Rattle.runs.proofs.RunLaws.{begun_same}
 use Rattle.jobs.specs.Answers.{answer_text}
-use Rattle.jobs.specs.Commands.{LineAnswer, answer_to, call_of, leaves_after, line_answer, lines_leave, open_flat, told_on_line}
+use Rattle.in_use.specs.InUse.{open_flat}
+use Rattle.jobs.specs.Commands.{LineAnswer, answer_to, call_of, leaves_after, line_answer, lines_leave, told_on_line}
 use Rattle.jobs.specs.Lines.{lines_of}
 use Rattle.jobs.specs.Runs.{job_sizes, opened_bench, prepared}
 use Rattle.jobs.specs.Theorems.{ForgettingJobs, OneAnswerALine, PrintsAlike, Prints, RefusedLinesChangeNothing}
@@ -78,7 +79,7 @@ module _ (element : Element) (picture : List ℕ) where
   slip_told None flat ns h = refl
   slip_told (Some fault) flat ns h = absurd (let z : ◌≡◌ {A = ℕ} 0 1 = cc in omega arith)
 
-  begun : (o : BenchSizes) (before others : List (List ℕ)) (r : Result Reading Misfit) (ns ms : List ℕ) →
+  begun : (o : BenchSizes) (before others : List (List ℕ)) (r : Result NumbersRead Misfit) (ns ms : List ℕ) →
       let line = by_column (made (one commands.Begin) r) in
       let b = lines_leave element picture (bench_opened o) before in
       let c = lines_leave element picture (bench_opened o) others in
@@ -111,7 +112,7 @@ module _ (card file input : List ℕ) (before rest : List (List ℕ)) (line : Li
 -- the two benches are the same behind the `V` line's place, and so all that follows is
 pub forgetting_jobs : ForgettingJobs
 forgetting_jobs card file one other before others last flat is_one is_other here there k within =
-    let v = written (commands.Begin flat) in
+    let v = command_text (commands.Begin flat) in
     let accepted = job_accepted (prepared card file) file one (length before) (Ok []) here in
     let element = accepted.0.0 in
     let p = accepted.0.1 in

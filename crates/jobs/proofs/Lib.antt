@@ -1,6 +1,5 @@
 pub mod Refusals
 pub mod Operations
-pub mod Slips
 pub mod Splitting
 pub mod CardElements
 pub mod Printing

@@ -14,7 +14,8 @@ use Rattle.model.specs.Steps.{Bench, BenchSizes, after, answer, bench_opened, st
 use Rattle.runs.specs.Sums.{AnswerSum, ToldSum}
 use Rattle.runs.specs.Theorems.{bench_after, cut_at, in_heights, mask_bench_after}
 use Rattle.runs.proofs.RunLaws.{mask_sums}
-use Rattle.jobs.specs.Commands.{LineAnswer, answer_to, call_of, leaves_after, lines_leave, numbers_told, open_flat, told_on_line}
+use Rattle.in_use.specs.InUse.{open_flat}
+use Rattle.jobs.specs.Commands.{LineAnswer, answer_to, call_of, leaves_after, lines_leave, numbers_told, told_on_line}
 use Rattle.jobs.specs.Theorems.{LineAnswerSum}
 
 -- the call of a command with something else made of its picture is that with what is made of the picture

@@ -1,30 +1,18 @@
 -- The call on the bench that a command stands for, and what a line answers and leaves. Assumes nothing.
-use Rattle.std.specs.Prelude.{ℕ, List, [], ◌∷◌, Ok, Err, Result, unwrap_or}
+use Rattle.std.specs.Prelude.{ℕ, List, [], ◌∷◌, Ok, Err, Result}
 use Rattle.std.specs.Result.{result_map_both}
 use Rattle.elements.specs.declared.element.Element.{Element}
 use Rattle.commands.specs.declared.Command.{Command}
 use Rattle.commands.specs.declared.Command.TheVariants.{Begin, Load, Erode, Dilate, Area, End}
 use Rattle.commands.specs.declared.LineFault.{LineFault}
 use Rattle.commands.specs.Reading.{read}
-use Rattle.levels.specs.declared.gray.Gray.{Gray}
-use Rattle.levels.specs.Gray.{gray_height}
 use Rattle.limits.specs.declared.fault.Fault.{Fault}
-use Rattle.bench.specs.declared.rack.Rack.{Rack}
-use Rattle.bench.specs.declared.slate.Slate.{Slate}
-use Rattle.bench.specs.Model.{rack_state, slate_state}
 use Rattle.faults.specs.declared.JobFault.{JobFault}
 use Rattle.faults.specs.declared.JobFault.TheVariants as fault_of
+use Rattle.in_use.specs.InUse.{open_flat}
 use Rattle.model.specs.Calls as calls
 use Rattle.model.specs.Calls.{Call, Told, AreaTold, SpectrumTold}
 use Rattle.model.specs.Steps.{Bench, answer, step}
-
--- the bench of a rack and a slate
-abbrev pub bench_of : Rack Gray → Slate → Bench
-bench_of rack slate = record { rack = rack_state gray_height rack; slate = slate_state slate }
-
--- the flat of the open visit, and 0 where none is open
-abbrev pub open_flat : Bench → ℕ
-open_flat b = unwrap_or b.rack.outline.visit 0
 
 -- the call that a command stands for, with the card's element, the job's picture, and the flat of the slip at hand
 abbrev pub call_of : {X : Type 0} → Element → List X → ℕ → Command → Call X

@@ -1,7 +1,7 @@
 -- What holds of every job, told of the lines of its input and of what is printed for them. Here lines count from 0. Assumes nothing.
 use Rattle.std.specs.Prelude.{◌≡◌, ℕ, ◌+◌, ◌*◌, ◌<◌, ◌≤◌, List, [], ◌∷◌, ◌++◌, drop, length, take, Ok, Err, MatchResult, slice_index_or}
 use Rattle.commands.specs.declared.Command.TheVariants.{Begin}
-use Rattle.commands.specs.Lines.{written}
+use Rattle.commands.specs.Lines.{command_text}
 use Rattle.elements.specs.declared.element.Element.{Element}
 use Rattle.faults.specs.declared.JobFault.{JobFault}
 use Rattle.laws.specs.Sums.{HeightsAtMost, ListSum}
@@ -53,7 +53,7 @@ SumsOfCutJobs = (card input : List ℕ) (w h : ℕ) (cells : List ℕ) →
 -- Forgetting. Where two inputs end with the same lines, from a `V` line on that is accepted in both, these lines get the same answers.
 abbrev pub ForgettingJobs : Type 0
 ForgettingJobs = (card file one other : List ℕ) (before others last : List (List ℕ)) (flat : ℕ) →
-    lines_of one ≡ before ++ (written (Begin flat) ∷ last) → lines_of other ≡ others ++ (written (Begin flat) ∷ last) →
+    lines_of one ≡ before ++ (command_text (Begin flat) ∷ last) → lines_of other ≡ others ++ (command_text (Begin flat) ∷ last) →
     Prints card file one (length before) (Ok []) → Prints card file other (length others) (Ok []) →
     (k : ℕ) → k ≤ length last → PrintsAlike card file one (length before + k) other (length others + k)
 

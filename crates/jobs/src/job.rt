@@ -3,36 +3,39 @@ ghost use Rattle.std.specs.Prelude.{◌≡◌, map, option_to_list};
 ghost use Rattle.std.specs.Result.{result_map_both};
 ghost use Rattle.faults.specs.declared.JobFault.TheVariants as fault_of;
 ghost use Rattle.jobs.specs.Answers.{one_or_none};
-ghost use Rattle.jobs.specs.Commands.{bench_of, call_of, line_answer, line_leaves, open_flat, told_on_line};
+ghost use Rattle.in_use.specs.InUse.{bench_of, open_flat};
+ghost use Rattle.jobs.specs.Commands.{call_of, line_answer, line_leaves, told_on_line};
 ghost use Rattle.levels.specs.Gray.{gray_height};
 ghost use Rattle.model.specs.Steps.{answer, step};
 
-use crate::visits::JobBench;
+use bench::load;
+use calls::{area, dilate, erode};
 use commands::{Command, read_line};
 use elements::Element;
 use faults::JobFault;
+use in_use::BenchInUse;
 use levels::Gray;
 use limits::Fault;
 
 // The element and the picture of a job, and its bench.
-pub(crate) struct Job<'a, 'b, 'c> {
+pub(crate) struct Job<'a, 'b> {
     pub(crate) element: Element,
     pub(crate) picture: &'a [Gray],
-    pub(crate) bench: JobBench<'b, 'c>,
+    pub(crate) bench: BenchInUse<'b, Gray>,
 }
 
-impl Job<'_, '_, '_> {
+impl Job<'_, '_> {
     // Does a command, and tells the area where that is asked.
-    #[tactic(auto, using(crate::proofs::Operations::operation_refused, crate::proofs::Slips::still_held, crate::proofs::Refusals::refused_on_line, crate::proofs::Refusals::refused_area, crate::proofs::Refusals::accepted_on_line))]
+    #[tactic(auto, using(crate::proofs::Operations::operation_refused, in_use::proofs::Kept::stored_own, crate::proofs::Refusals::refused_on_line, crate::proofs::Refusals::refused_area, crate::proofs::Refusals::accepted_on_line))]
     fn perform(&mut self, command: Command) -> Result<Option<u64>, Fault>
         ensures answers { result_map_both option_to_list fault_of.Bench result ≡ told_on_line
-            (answer (bench_of self.old.bench.rack self.old.bench.slate)
+            (answer (bench_of gray_height self.old.bench)
             (call_of self.old.element (map gray_height self.old.picture.now)
-            (open_flat (bench_of self.old.bench.rack self.old.bench.slate)) command)) }
-        ensures steps { bench_of self.new.bench.rack self.new.bench.slate ≡
-            step (bench_of self.old.bench.rack self.old.bench.slate)
+            (open_flat (bench_of gray_height self.old.bench)) command)) }
+        ensures steps { bench_of gray_height self.new.bench ≡
+            step (bench_of gray_height self.old.bench)
             (call_of self.old.element (map gray_height self.old.picture.now)
-            (open_flat (bench_of self.old.bench.rack self.old.bench.slate)) command) }
+            (open_flat (bench_of gray_height self.old.bench)) command) }
         ensures element { self.new.element ≡ self.old.element }
         ensures picture { self.new.picture.now ≡ self.old.picture.now }
     {
@@ -40,18 +43,16 @@ impl Job<'_, '_, '_> {
         // A match: the line says which command.
         match command {
             Command::Begin { flat } => bench.begin(flat)?,
-            Command::Load { place } => bench.rack.load(usize::from(place), self.picture)?,
+            Command::Load { place } => load(&mut bench.rack, usize::from(place), self.picture)?,
             Command::Erode { from, to } => {
-                bench
-                    .rack
-                    .erode(&self.element, usize::from(from), usize::from(to))?
+                let (from, to) = (usize::from(from), usize::from(to));
+                erode(&mut bench.rack, &self.element, from, to)?
             }
             Command::Dilate { from, to } => {
-                bench
-                    .rack
-                    .dilate(&self.element, usize::from(from), usize::from(to))?
+                let (from, to) = (usize::from(from), usize::from(to));
+                dilate(&mut bench.rack, &self.element, from, to)?
             }
-            Command::Area { place } => return Ok(Some(bench.rack.area(usize::from(place))?)),
+            Command::Area { place } => return Ok(Some(area(&bench.rack, usize::from(place))?)),
             Command::End => bench.end()?,
         }
         Ok(None)
@@ -61,10 +62,10 @@ impl Job<'_, '_, '_> {
     pub(crate) fn obey(&mut self, line: &[u8]) -> Result<Option<u64>, JobFault>
         ensures answers { one_or_none result ≡
             line_answer self.old.element (map gray_height self.old.picture.now)
-            (bench_of self.old.bench.rack self.old.bench.slate) line.now }
-        ensures steps { bench_of self.new.bench.rack self.new.bench.slate ≡
+            (bench_of gray_height self.old.bench) line.now }
+        ensures steps { bench_of gray_height self.new.bench ≡
             line_leaves self.old.element (map gray_height self.old.picture.now)
-            (bench_of self.old.bench.rack self.old.bench.slate) line.now }
+            (bench_of gray_height self.old.bench) line.now }
         ensures element { self.new.element ≡ self.old.element }
         ensures picture { self.new.picture.now ≡ self.old.picture.now }
     {

@@ -6,6 +6,5 @@ mod job;
 mod lines;
 mod prepare;
 mod run;
-mod visits;
 
 pub use run::run_job;

@@ -1,7 +1,7 @@
 // The run of a job: from the bytes of a card, a picture file and job lines to the printed lines.
 ghost use Rattle.std.specs.Prelude.{◌≡◌, ◌++◌, codes, map, IfOk, string_bytes, OnOk};
+ghost use Rattle.in_use.specs.InUse.{bench_of};
 ghost use Rattle.jobs.specs.Answers.{answer_text, one_or_none};
-ghost use Rattle.jobs.specs.Commands.{bench_of};
 ghost use Rattle.jobs.specs.Lines.{lines_of};
 ghost use Rattle.jobs.specs.Runs.{opened_bench, printed, printed_lines};
 ghost use Rattle.jobs.specs.Theorems.{ForgettingJobs, OneAnswerALine, RefusedLinesChangeNothing, SumsOfCutJobs};
@@ -11,9 +11,9 @@ use crate::answers::answer_line;
 use crate::job::Job;
 use crate::lines::Lines;
 use crate::prepare::{gray_levels, prepare};
-use crate::visits::JobBench;
 use elements::Element;
 use faults::JobFault;
+use in_use::{BenchInUse, Sizes};
 use levels::Gray;
 use limits::Sides;
 use std::alloc::{AllocError, Global};
@@ -32,10 +32,10 @@ fn print_answer(
 }
 
 // Obeys the lines of an input one after another.
-fn run_lines(heap: Global, job: &mut Job<'_, '_, '_>, input: &[u8]) -> Result<String, AllocError>
+fn run_lines(heap: Global, job: &mut Job<'_, '_>, input: &[u8]) -> Result<String, AllocError>
     ensures { IfOk result (λ out. string_bytes out ≡
         printed_lines job.old.element (map gray_height job.old.picture.now)
-        (bench_of job.old.bench.rack job.old.bench.slate) 1 (lines_of input.now)) }
+        (bench_of gray_height job.old.bench) 1 (lines_of input.now)) }
 {
     let mut out = String::new(heap);
     for (index, line) in Lines(input).enumerate() {
@@ -60,7 +60,15 @@ fn run_picture(
     let picture = gray_levels(heap, cells)?;
     let mut levels = vec![in heap; Gray::new(0); 6 * sides.cells()]?;
     let mut numbers = vec![in heap; 0; sides.cells()]?;
-    let bench = JobBench::open(sides, levels.as_mut_slice(), numbers.as_mut_slice());
+    let Sides { w, h } = sides;
+    let sheets = Sizes { w, h, places: 4 };
+    let tallies = Sizes { w, h, places: 1 };
+    let bench = BenchInUse::open(
+        levels.as_mut_slice(),
+        sheets,
+        numbers.as_mut_slice(),
+        tallies,
+    );
     let picture = picture.as_slice();
     let mut job = Job {
         element,
@@ -73,7 +81,7 @@ fn run_picture(
     let Job {
         element: _,
         picture: _,
-        bench: JobBench {
+        bench: BenchInUse {
             rack: _,
             slate: _,
             slip: None,

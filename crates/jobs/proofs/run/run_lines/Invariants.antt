@@ -1,7 +1,7 @@
 use Rattle.std.proofs.Common.{◌≡◌, ◌+◌, ◌++◌, map, length, string_bytes}
 use Rattle.std.specs.Iterator.Adapters.{enumerate_source, enumerate_count}
 use Rattle.levels.specs.Gray.{gray_height}
-use Rattle.jobs.specs.Commands.{bench_of}
+use Rattle.in_use.specs.InUse.{bench_of}
 use Rattle.jobs.specs.Lines.{lines_of}
 use Rattle.jobs.specs.Runs.{printed_lines}
 use Rattle.jobs.proofs.run.run_lines.Given as goal
@@ -16,6 +16,6 @@ invariant-loop-index l =
       element : l.job.element ≡ l.initial.job.element;
       picture : l.job.picture.now ≡ l.initial.job.picture.now;
       printed :
-          string_bytes l.out ++ printed_lines l.initial.job.element (map gray_height l.initial.job.picture.now) (bench_of l.job.bench.rack l.job.bench.slate) (k + 1) lines
-          ≡ printed_lines l.initial.job.element (map gray_height l.initial.job.picture.now) (bench_of l.initial.job.bench.rack l.initial.job.bench.slate) 1 (lines_of l.input);
+          string_bytes l.out ++ printed_lines l.initial.job.element (map gray_height l.initial.job.picture.now) (bench_of gray_height l.job.bench) (k + 1) lines
+          ≡ printed_lines l.initial.job.element (map gray_height l.initial.job.picture.now) (bench_of gray_height l.initial.job.bench) 1 (lines_of l.input);
     }

@@ -48,8 +48,8 @@ module _ {T X C : Type 0} (holds : T → List X → C) (m : Marks T) (k : ℕ) (
   abbrev row : List (Option T)
   row = set m.filled (k - 1) (Some t)
 
-  abbrev written : List X
-  written = overwritten (place_start (m.w * m.h) k) cells memory
+  abbrev after_writing : List X
+  after_writing = overwritten (place_start (m.w * m.h) k) cells memory
 
   -- what is kept for a place after that is kept for place k
   kept_after : (j : ℕ) → cond (is_place m.places j) (get_or row (j - 1) None) None ≡ cond (eqb j k) (Some t) (kept m j)
@@ -75,7 +75,7 @@ module _ {T X C : Type 0} (holds : T → List X → C) (m : Marks T) (k : ℕ) (
   filled_after : (j : ℕ) → is_some (cond (eqb j k) (Some t) (kept m j)) ≡ cond (eqb j k) true (is_some (kept m j))
   filled_after j = elim (cases_Bool (eqb j k)) [ inl same ↦ rw same refl | inr other ↦ rw other refl ]
 
-  content_after : (j : ℕ) → option_map (λ u. holds u (cells_of (m.w * m.h) j written)) (cond (eqb j k) (Some t) (kept m j))
+  content_after : (j : ℕ) → option_map (λ u. holds u (cells_of (m.w * m.h) j after_writing)) (cond (eqb j k) (Some t) (kept m j))
       ≡ cond (eqb j k) (Some (holds t cells)) (option_map (λ u. holds u (cells_of (m.w * m.h) j memory)) (kept m j))
   content_after j =
       let c = m.w * m.h in
@@ -84,8 +84,8 @@ module _ {T X C : Type 0} (holds : T → List X → C) (m : Marks T) (k : ℕ) (
         | inl same ↦
             rw (eq-eqb j k same)
             (ap (λ xs. Some (holds t xs))
-            (ap (λ i. cells_of c i written) same
-            ∙ ap (λ l. take l (drop (place_start c k) written)) (sym long)
+            (ap (λ i. cells_of c i after_writing) same
+            ∙ ap (λ l. take l (drop (place_start c k) after_writing)) (sym long)
             ∙ taken_written (place_start c k) cells memory fits))
         | inr other ↦
             rw (ne_eqb j k other)
@@ -102,15 +102,15 @@ module _ {T X C : Type 0} (holds : T → List X → C) (m : Marks T) (k : ℕ) (
 
   -- the state with something kept for the place and its cells written
   pub stored_state : (after : Marks T) → after.w ≡ m.w → after.h ≡ m.h → after.places ≡ m.places → after.visit ≡ m.visit → after.filled ≡ row →
-      state_of holds after written ≡ stored (state_of holds m memory) k (holds t cells)
+      state_of holds after after_writing ≡ stored (state_of holds m memory) k (holds t cells)
   stored_state after ew eh ep ev ef =
       (λ i. record {
         outline = record { w = ew i; h = eh i; places = ep i; visit = ev i; filled = λ j. is_some (cond (is_place (ep i) j) (get_or (ef i) (j - 1) None) None) };
-        content = λ j. option_map (λ u. holds u (cells_of (ew i * eh i) j written)) (cond (is_place (ep i) j) (get_or (ef i) (j - 1) None) None);
+        content = λ j. option_map (λ u. holds u (cells_of (ew i * eh i) j after_writing)) (cond (is_place (ep i) j) (get_or (ef i) (j - 1) None) None);
       })
       ∙ (λ i. record {
         outline = record { w = m.w; h = m.h; places = m.places; visit = m.visit; filled = λ j. is_some (kept_after j i) };
-        content = λ j. option_map (λ u. holds u (cells_of (m.w * m.h) j written)) (kept_after j i);
+        content = λ j. option_map (λ u. holds u (cells_of (m.w * m.h) j after_writing)) (kept_after j i);
       })
       ∙ (λ i. record {
         outline = record { w = m.w; h = m.h; places = m.places; visit = m.visit; filled = λ j. filled_after j i };

@@ -15,7 +15,7 @@ pub(crate) fn store<L: Copy>(memory: &mut [L], start: usize, cells: &[L])
     memory[start..start + cells.len()].copy_from_slice(cells);
 }
 
-// So many cells from a start on: all places lie in one lent slice, since the library has no heap.
+// So many cells from a start on: all places lie in the memory that was lent, since calls on sheets allocate nothing.
 pub(crate) fn part<T>(memory: &[T], start: usize, cells: usize) -> &[T]
     requires { start + cells ≤ length memory.now }
     ensures { result.now ≡ cells_from start cells memory.now }

@@ -7,7 +7,7 @@ use Rattle.morphology.specs.declared.extremum.Extremum.TheVariants.{Minimum, Max
 use Rattle.morphology.specs.Cells.{extreme_of, first_place}
 use Rattle.morphology.specs.Passes.{extreme}
 use Rattle.morphology.proofs.Extremes.{absorbs_right, absorbs_start}
-use Rattle.calls.specs.Told.{SpotsAreFirstExtremes}
+use Rattle.calls.specs.Queries.{SpotsAreFirstExtremes}
 use Rattle.calls.proofs.Folds.{fold_is_extreme}
 
 -- the extreme of two heights is one of them

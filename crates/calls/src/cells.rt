@@ -1,6 +1,6 @@
 // What is told of the levels of a sheet, and its mask at a height.
 ghost use Rattle.std.specs.Prelude.{◌≡◌, ◌≤◌, map, length, if◌then◌else◌, nat_le};
-ghost use Rattle.calls.specs.Told.{extreme_spot, spot_numbers};
+ghost use Rattle.calls.specs.Queries.{extreme_spot, spot_numbers};
 ghost use Rattle.levels.specs.Mask.{mask_height};
 ghost use Rattle.morphology.specs.Cells.{cut, extreme_of, first_place};
 ghost use Rattle.morphology.specs.Sheets.{area};

@@ -3,9 +3,9 @@
 
 mod cells;
 mod made;
+mod queries;
 mod spot;
-mod told;
 
 pub use made::{dilate, erode, join, meet};
+pub use queries::{area, cut, show_sheet, show_tally, span};
 pub use spot::Spot;
-pub use told::{area, cut, show_sheet, show_tally, span};

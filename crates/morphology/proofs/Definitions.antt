@@ -11,17 +11,17 @@ use Rattle.morphology.specs.declared.extremum.Extremum.TheVariants.{Minimum, Max
 use Rattle.morphology.specs.Sheets.{height_at, at_place}
 use Rattle.morphology.specs.Erosion.{erosion_at, dilation_at}
 use Rattle.morphology.specs.Erosion.{operated}
-use Rattle.morphology.specs.Passes.{extreme, reached, swept}
+use Rattle.morphology.specs.Passes.{extreme, read_at, swept}
 use Rattle.morphology.proofs.Extremes.{absorbs_right, absorbs_start, fold_is_least, fold_is_greatest}
 
 -- what is read at (0, 0) is the cell's own height
-own_height : (op : Operation) (w h : ℕ) (f : List ℕ) (p : ℕ) → 1 ≤ w → p < w * h → reached op w h f (p % w) (p / w) (offset_at 24) ≡ get_or f p 0
+own_height : (op : Operation) (w h : ℕ) (f : List ℕ) (p : ℕ) → 1 ≤ w → p < w * h → read_at op w h f (p % w) (p / w) (offset_at 24) ≡ get_or f p 0
 own_height op w h f p wide on = at_origin op ∙ rw (add-zero, add-zero, lt-ltb _ _ (mod_below p w wide), lt-ltb _ _ row, div-add-mod') refl
   where
     row : p / w < h
     row = div_below p w h wide (rw mul_comm on)
 
-    at_origin : (op : Operation) → reached op w h f (p % w) (p / w) (offset_at 24) ≡ height_at w h f (pos (p % w + 0)) (pos (p / w + 0))
+    at_origin : (op : Operation) → read_at op w h f (p % w) (p / w) (offset_at 24) ≡ height_at w h f (pos (p % w + 0)) (pos (p / w + 0))
     at_origin Erosion = refl
     at_origin Dilation = refl
 
@@ -43,14 +43,14 @@ module _ (w h : ℕ) (f : List ℕ) (flags : List Bool) (wide : 1 ≤ w) (centre
   swept_erosion : (p : ℕ) → p < w * h → swept Erosion w h f (flagged 0 flags) p ≡ at_place w (erosion_at w h (flagged 0 flags) f) p
   swept_erosion p on =
       let own = own_height Erosion w h f p wide on in
-      let reach = reached Erosion w h f (p % w) (p / w) in
+      let reach = read_at Erosion w h f (p % w) (p / w) in
       let low = absorbs_flag Minimum reach (suc (get_or f p 0)) 0 24 flags centre in
       fold_is_least (get_or f p 0) (map reach (flagged 0 flags)) (omega arith)
 
   swept_dilation : (p : ℕ) → p < w * h → swept Dilation w h f (flagged 0 flags) p ≡ at_place w (dilation_at w h (flagged 0 flags) f) p
   swept_dilation p on =
       let own = own_height Dilation w h f p wide on in
-      let reach = reached Dilation w h f (p % w) (p / w) in
+      let reach = read_at Dilation w h f (p % w) (p / w) in
       let high = absorbs_flag Maximum reach 0 0 24 flags centre in
       fold_is_greatest (get_or f p 0) (map reach (flagged 0 flags)) (omega arith)
 

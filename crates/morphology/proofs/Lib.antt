@@ -1,6 +1,6 @@
 pub mod Passing
 pub mod Rows
-pub mod Reach
+pub mod ReadAt
 pub mod Extremes
 pub mod Sweeping
 pub mod Definitions

@@ -5,8 +5,8 @@ use Rattle.std.proofs.lemmas.List.Sums.{fold_push}
 use Rattle.elements.specs.Offsets.{flagged, offset_at}
 use Rattle.morphology.specs.declared.operation.Operation.{Operation}
 use Rattle.morphology.specs.Sheets.{at_place}
-use Rattle.morphology.specs.Passes.{extreme, kept_by, neighbour, reached, swept, turned}
-use Rattle.morphology.proofs.Reach.{neighbour-reached}
+use Rattle.morphology.specs.Passes.{extreme, kept_by, neighbour, read_at, swept, turned}
+use Rattle.morphology.proofs.ReadAt.{neighbour-read_at}
 
 -- the offsets of one flag more
 flagged_more : (k i : ℕ) (bs : List Bool) → flagged k (take (suc i) bs) ≡ flagged k (take i bs) ++ cond (get_or bs i false) (offset_at (k + i) ∷ []) []
@@ -23,9 +23,9 @@ flagged_more k (suc i) (b ∷ bs) =
     ]
 
 module _ (op : Operation) (w h : ℕ) (f : List ℕ) (p : ℕ) where
-  swept-push : (offsets : List (ℤ × ℤ)) (o : ℤ × ℤ) → swept op w h f (offsets ++ o ∷ []) p ≡ extreme (kept_by op) (swept op w h f offsets p) (reached op w h f (p % w) (p / w) o)
+  swept-push : (offsets : List (ℤ × ℤ)) (o : ℤ × ℤ) → swept op w h f (offsets ++ o ∷ []) p ≡ extreme (kept_by op) (swept op w h f offsets p) (read_at op w h f (p % w) (p / w) o)
   swept-push offsets o =
-      let reach = reached op w h f (p % w) (p / w) in
+      let reach = read_at op w h f (p % w) (p / w) in
       ap (fold (extreme (kept_by op)) (get_or f p 0)) (map_push reach offsets o) ∙ fold_push (extreme (kept_by op)) (get_or f p 0) (map reach offsets) (reach o)
 
   -- one turn of the sweep, at a flag that is set and at one that is not: x is the cell before it, and y after
@@ -34,7 +34,7 @@ module _ (op : Operation) (w h : ℕ) (f : List ℕ) (p : ℕ) where
       let more : flagged 0 (take (i + 1) flags) ≡ flagged 0 (take i flags) ++ offset_at i ∷ [] =
       rw add-one (flagged_more 0 i flags ∙ rw (held, zero-add) refl) in
       is ∙ ap (λ z. extreme (kept_by op) z (at_place w (neighbour w h f (turned op (i % 7)) (turned op (i / 7))) p)) was
-      ∙ ap (extreme (kept_by op) _) (neighbour-reached op w h f i (p % w) (p / w) on)
+      ∙ ap (extreme (kept_by op) _) (neighbour-read_at op w h f i (p % w) (p / w) on)
       ∙ sym (ap (λ os. swept op w h f os p) more ∙ swept-push (flagged 0 (take i flags)) (offset_at i))
 
   pub sweep_clear : (flags : List Bool) (i x : ℕ) → get_or flags i false ≡ false → x ≡ swept op w h f (flagged 0 (take i flags)) p → x ≡ swept op w h f (flagged 0 (take (i + 1) flags)) p

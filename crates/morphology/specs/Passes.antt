@@ -31,13 +31,13 @@ abbrev pub neighbour : ℕ → ℕ → List ℕ → ℕ → ℕ → ℕ → ℕ 
 neighbour w h f c r m n = cond (on_side h n r && on_side w m c) (slice_index f ((n + r - 3) * w + (m + c - 3))) 0
 
 -- the height that an operation reads from column m and row n at the offset o
-abbrev pub reached : Operation → ℕ → ℕ → List ℕ → ℕ → ℕ → ℤ × ℤ → ℕ
-reached Erosion w h f m n o = height_at w h f (pos m +ℤ o.0) (pos n +ℤ o.1)
-reached Dilation w h f m n o = height_at w h f (pos m -ℤ o.0) (pos n -ℤ o.1)
+abbrev pub read_at : Operation → ℕ → ℕ → List ℕ → ℕ → ℕ → ℤ × ℤ → ℕ
+read_at Erosion w h f m n o = height_at w h f (pos m +ℤ o.0) (pos n +ℤ o.1)
+read_at Dilation w h f m n o = height_at w h f (pos m -ℤ o.0) (pos n -ℤ o.1)
 
 -- the extreme of a cell's own height and of all that the operation reads from it
 abbrev pub swept : Operation → ℕ → ℕ → List ℕ → List (ℤ × ℤ) → ℕ → ℕ
-swept op w h f offsets p = fold (extreme (kept_by op)) (slice_index f p) (map (reached op w h f (p % w) (p / w)) offsets)
+swept op w h f offsets p = fold (extreme (kept_by op)) (slice_index f p) (map (read_at op w h f (p % w) (p / w)) offsets)
 
 -- the height that column m of a row of w cells reads in the row f, c − 3 columns on; outside counts as lowest
 abbrev pub in_row : ℕ → List ℕ → ℕ → ℕ → ℕ

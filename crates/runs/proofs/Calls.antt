@@ -15,7 +15,7 @@ use Rattle.bench.specs.Model.{Tally, sheet_of, tally_of}
 use Rattle.bench.specs.Calls.{Making, begin_refusal, end_refusal, load_refusal, made_of, make_refusal, sheet_refusal}
 use Rattle.calls.specs.Made.{by_element}
 use Rattle.bench.proofs.Refusals.{load_accepted}
-use Rattle.calls.specs.Told.{show_sheet_refusal, show_tally_refusal}
+use Rattle.calls.specs.Queries.{show_sheet_refusal, show_tally_refusal}
 use Rattle.elements.specs.Elements.{offsets}
 use Rattle.laws.specs.Sums.{ListSum, greatest_to, sum_to}
 use Rattle.laws.proofs.ElementLaws.{erosion_and_dilation_are_pair}

@@ -13,7 +13,7 @@ use Rattle.morphology.specs.Sheets.{area}
 use Rattle.bench.specs.Model.{State, Tally, sheet_of, tally_of}
 use Rattle.bench.specs.Calls.{Making, begin_refusal, end_refusal, ended, load_refusal, made_of, make_refusal, sheet_refusal, stored, with_visit}
 use Rattle.calls.specs.Made.{by_element}
-use Rattle.calls.specs.Told.{extreme_spot, show_sheet_refusal, show_tally_refusal}
+use Rattle.calls.specs.Queries.{extreme_spot, show_sheet_refusal, show_tally_refusal}
 use Rattle.operators.specs.Tallies.{differed}
 use Rattle.model.specs.ByElement.{closing_by, opening_by, reconstruction_by, rounds_by, skeleton_by, spectrum_by}
 use Rattle.model.specs.Calls.{Call, Begin, End, Load, Erode, Dilate, Open, Close, Meet, Join, Regrow, Edge, Peak, Valley, Differ, Add, Scale, Area, Span, Spectrum, Skeleton, ShowSheet, ShowTally, Told, NothingTold, SlipTold, RoundsTold, AreaTold, SpanTold, SpectrumTold, SkeletonTold, SheetTold, TallyTold}

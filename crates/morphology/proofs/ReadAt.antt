@@ -8,7 +8,7 @@ use Rattle.elements.specs.Offsets.{offset_at}
 use Rattle.morphology.specs.declared.operation.Operation.{Operation}
 use Rattle.morphology.specs.declared.operation.Operation.TheVariants.{Erosion, Dilation}
 use Rattle.morphology.specs.Sheets.{height_at}
-use Rattle.morphology.specs.Passes.{neighbour, reached, turned}
+use Rattle.morphology.specs.Passes.{neighbour, read_at, turned}
 
 -- c − 3 cells on from x, where that is no less than 0, and where it is
 on_from : (x c : ℕ) → 3 ≤ x + c → pos x +ℤ (pos c -ℤ pos 3) ≡ pos (x + c - 3)
@@ -30,7 +30,7 @@ height_neighbour w h f c r m n = elim (cases_lt (m + c) 3) [
   ]
 ]
 
-at_offset : (op : Operation) (w h : ℕ) (f : List ℕ) (c r m n : ℕ) → c ≤ 6 → r ≤ 6 → neighbour w h f (turned op c) (turned op r) m n ≡ reached op w h f m n (pos c -ℤ pos 3, pos r -ℤ pos 3)
+at_offset : (op : Operation) (w h : ℕ) (f : List ℕ) (c r m n : ℕ) → c ≤ 6 → r ≤ 6 → neighbour w h f (turned op c) (turned op r) m n ≡ read_at op w h f m n (pos c -ℤ pos 3, pos r -ℤ pos 3)
 at_offset Erosion w h f c r m n _ _ = sym (height_neighbour w h f c r m n)
 at_offset Dilation w h f c r m n small short =
     sym (ap (λ x. height_at w h f x (pos n -ℤ (pos r -ℤ pos 3))) (opposite m c small)
@@ -38,5 +38,5 @@ at_offset Dilation w h f c r m n small short =
     ∙ height_neighbour w h f (6 - c) (6 - r) m n)
 
 -- at place k of the square
-pub neighbour-reached : (op : Operation) (w h : ℕ) (f : List ℕ) (k m n : ℕ) → k < 49 → neighbour w h f (turned op (k % 7)) (turned op (k / 7)) m n ≡ reached op w h f m n (offset_at k)
-neighbour-reached op w h f k m n on = at_offset op w h f (k % 7) (k / 7) m n (omega (arith, mod_below k 7 (omega arith))) (omega (arith, div_below k 7 7 (omega arith) on))
+pub neighbour-read_at : (op : Operation) (w h : ℕ) (f : List ℕ) (k m n : ℕ) → k < 49 → neighbour w h f (turned op (k % 7)) (turned op (k / 7)) m n ≡ read_at op w h f m n (offset_at k)
+neighbour-read_at op w h f k m n on = at_offset op w h f (k % 7) (k / 7) m n (omega (arith, mod_below k 7 (omega arith))) (omega (arith, div_below k 7 7 (omega arith) on))

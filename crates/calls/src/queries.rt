@@ -1,7 +1,7 @@
 // The calls that tell or copy out what is on a bench, which stays as it is.
 ghost use Rattle.std.specs.Prelude.{◌≡◌, map, length, None, Some, MatchResult};
 ghost use Rattle.bench.specs.Model.{rack_outline, rack_state, sheet_of, slate_outline, slate_state};
-ghost use Rattle.calls.specs.Told.{area_answer, cut_refusal, show_sheet_refusal, show_tally_refusal, span_answer, spots_told, SpotsAreFirstExtremes};
+ghost use Rattle.calls.specs.Queries.{area_answer, cut_refusal, show_sheet_refusal, show_tally_refusal, span_answer, spots_told, SpotsAreFirstExtremes};
 ghost use Rattle.levels.specs.Mask.{mask_height};
 ghost use Rattle.limits.specs.Faults.{told};
 ghost use Rattle.morphology.specs.Cells.{cut};

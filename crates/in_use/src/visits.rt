@@ -1,5 +1,7 @@
 // How a bench in use opens, and the visits on it.
-ghost use Rattle.std.specs.Prelude.{◌≡◌, length, None};
+ghost use Rattle.std.specs.Prelude.{◌≡◌, length, map, pos, None, MatchResult};
+ghost use Rattle.bench.specs.Calls.{wiped};
+ghost use Rattle.bench.specs.Model.{rack_outline, slate_outline};
 ghost use Rattle.in_use.specs.InUse.{bench_of, open_flat};
 ghost use Rattle.model.specs.Calls.{Begin, End, NothingTold, SlipTold};
 ghost use Rattle.model.specs.Steps.{answer, bench_opened, step, telling};
@@ -32,11 +34,13 @@ impl<'a, L: Level> BenchInUse<'a, L> {
 }
 
 impl<L: Level> BenchInUse<'_, L> {
-    /// Begins a visit to a flat, and keeps its slip.
+    /// Begins a visit to a flat, and keeps its slip. No memory changes.
     /// Refuses a flat number that is not 1 to 9,999 (11), a visit open (32), and a rack and a slate whose sides differ (37).
     pub fn begin(&mut self, flat: u16) -> Result<(), Fault>
         ensures steps { bench_of L.height self.new ≡ step (bench_of L.height self.old) (Begin flat) }
         ensures answers { telling (λ nothing. SlipTold flat) result ≡ answer (bench_of L.height self.old) (Begin flat) }
+        ensures levels { self.new.rack.memory.now ≡ self.old.rack.memory.now }
+        ensures numbers { self.new.slate.memory.now ≡ self.old.slate.memory.now }
     {
         let slip = begin(&mut self.rack, &mut self.slate, flat)?;
         match self.slip.replace(slip) {
@@ -45,12 +49,20 @@ impl<L: Level> BenchInUse<'_, L> {
         }
     }
 
-    /// Ends the visit that is open, by its slip: every place is then empty, and no slip is left.
-    /// Refuses no visit open (31).
+    /// Ends the visit that is open, by its slip: every place is then empty, all memory of places and working planes is lowest or
+    /// zero, and no slip is left.
+    /// Refuses no visit open (31), and then leaves everything as it was.
     pub fn end(&mut self) -> Result<(), Fault>
         ensures steps { bench_of L.height self.new ≡ step (bench_of L.height self.old) (End (open_flat (bench_of L.height self.old))) }
         ensures answers { telling (λ nothing. NothingTold) result
             ≡ answer (bench_of L.height self.old) (End (open_flat (bench_of L.height self.old))) }
+        ensures levels { MatchResult result
+            (λ _. map L.height self.new.rack.memory.now
+            ≡ wiped (rack_outline self.old.rack).places 0 (map L.height self.old.rack.memory.now))
+            (λ _. self.new.rack.memory.now ≡ self.old.rack.memory.now) }
+        ensures numbers { MatchResult result
+            (λ _. self.new.slate.memory.now ≡ wiped (slate_outline self.old.slate).places (pos 0) self.old.slate.memory.now)
+            (λ _. self.new.slate.memory.now ≡ self.old.slate.memory.now) }
         ensures spent { self.new.slip ≡ None }
     {
         let Some(slip) = self.slip.take() else {

@@ -8,7 +8,7 @@ mod sizes;
 
 use cases::{Cases, Kind, run_at_every_kind};
 use crossing::cross_visits;
-use levels::level::Level;
+use elements::Element;
 use sheets::operate_all;
 use sizes::check_sizes;
 use std::io;
@@ -17,16 +17,16 @@ use std::io;
 struct BenchCases;
 
 impl Cases for BenchCases {
-    fn run<L: Level>(&self, rt: &HostRuntime, kind: &Kind<'_, L>) -> io::Result<()> {
-        let title = kind.title;
-        println!(rt; "# {title}: erosion and dilation")?;
-        operate_all(rt, kind)?;
-        println!(rt; "# {title}: crossed slips and slates")?;
-        cross_visits::<L>(rt)
+    fn run<K: Kind>(&self, rt: &HostRuntime, kind: &K, element: &Element) -> io::Result<()> {
+        let picture = kind.levels(rt.alloc(), &K::PICTURE)?;
+        println!(rt; "# {kind}: erosion and dilation")?;
+        operate_all(rt, picture.as_slice(), element)?;
+        println!(rt; "# {kind}: crossed slips and slates")?;
+        cross_visits::<K::Level>(rt)
     }
 }
 
 fn main(rt: HostRuntime) -> io::Result<()> {
     check_sizes(&rt)?;
-    run_at_every_kind(&rt, &BenchCases)
+    run_at_every_kind(&rt, &BenchCases, &[1, 2])
 }

@@ -9,8 +9,8 @@ mod sizes;
 
 use cases::{Cases, Kind, run_at_every_kind};
 use crossing::cross_visits;
+use elements::Element;
 use lending::lend;
-use levels::level::Level;
 use sheets::operate_all;
 use sizes::check_sizes;
 use std::io;
@@ -19,18 +19,18 @@ use std::io;
 struct BenchCases;
 
 impl Cases for BenchCases {
-    fn run<L: Level>(&self, rt: &HostRuntime, kind: &Kind<'_, L>) -> io::Result<()> {
-        let title = kind.title;
-        println!(rt; "# {title}: erosion and dilation")?;
-        operate_all(rt, kind)?;
-        println!(rt; "# {title}: crossed slips and slates")?;
-        cross_visits::<L>(rt)?;
-        println!(rt; "# {title}: memory after a visit")?;
-        lend(rt, kind)
+    fn run<K: Kind>(&self, rt: &HostRuntime, kind: &K, element: &Element) -> io::Result<()> {
+        let picture = kind.levels(rt.alloc(), &K::PICTURE)?;
+        println!(rt; "# {kind}: erosion and dilation")?;
+        operate_all(rt, picture.as_slice(), element)?;
+        println!(rt; "# {kind}: crossed slips and slates")?;
+        cross_visits::<K::Level>(rt)?;
+        println!(rt; "# {kind}: memory after a visit")?;
+        lend(rt, picture.as_slice(), element)
     }
 }
 
 fn main(rt: HostRuntime) -> io::Result<()> {
     check_sizes(&rt)?;
-    run_at_every_kind(&rt, &BenchCases)
+    run_at_every_kind(&rt, &BenchCases, &[1, 2])
 }

@@ -1,5 +1,6 @@
 // Erosion and dilation as calls on lists of levels.
-use cases::{Answer, Heights, Kind};
+use cases::{Answer, Heights, first_levels};
+use elements::Element;
 use levels::level::Level;
 use limits::Fault;
 use morphology::{dilate, erode};
@@ -39,12 +40,16 @@ const SHEETS: [(usize, usize, usize); 16] = [
     (6, 6, 1),
 ];
 
-// Prints the erosions and the dilations of the first levels of a picture.
-pub(crate) fn operate_all<L: Level>(rt: &HostRuntime, kind: &Kind<'_, L>) -> io::Result<()> {
+// Prints the erosions and the dilations of the first levels of a picture by an element.
+pub(crate) fn operate_all<L: Level>(
+    rt: &HostRuntime,
+    picture: &[L],
+    element: &Element,
+) -> io::Result<()> {
     for (len, w, h) in SHEETS {
-        let sheet = kind.first(len);
-        show_written(rt, |to: &mut [L]| erode(sheet, to, w, h, &kind.element))?;
-        show_written(rt, |to: &mut [L]| dilate(sheet, to, w, h, &kind.element))?;
+        let sheet = first_levels(picture, len);
+        show_written(rt, |to: &mut [L]| erode(sheet, to, w, h, element))?;
+        show_written(rt, |to: &mut [L]| dilate(sheet, to, w, h, element))?;
     }
     Ok(())
 }

@@ -43,3 +43,8 @@ impl<'a> Line<'a> {
         }
     }
 }
+
+// The first line of a text, and the lines behind it.
+pub(crate) fn split_line(text: &str) -> (&str, &str) {
+    text.split_once('\n').unwrap_or((text, ""))
+}

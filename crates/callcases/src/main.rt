@@ -1,13 +1,14 @@
 // The program callcases: makes the calls of its input at every level kind, and prints each beside its answer.
 #![tactic(auto)]
 
+mod given;
 mod line;
 mod making;
 mod reply;
 mod sequences;
 
 use cases::{Cases, Kind, run_at_every_kind};
-use levels::level::Level;
+use elements::Element;
 use sequences::make_sequence;
 use std::io;
 
@@ -18,9 +19,9 @@ struct CallCases<'a> {
 }
 
 impl Cases for CallCases<'_> {
-    fn run<L: Level>(&self, rt: &HostRuntime, kind: &Kind<'_, L>) -> io::Result<()> {
+    fn run<K: Kind>(&self, rt: &HostRuntime, kind: &K, element: &Element) -> io::Result<()> {
         for sequence in self.input.split("\n\n") {
-            make_sequence(rt, kind, sequence)?;
+            make_sequence(rt, kind, element, sequence)?;
         }
         Ok(())
     }
@@ -31,5 +32,5 @@ fn main(rt: HostRuntime) -> io::Result<()> {
     let cases = CallCases {
         input: input.as_str(),
     };
-    run_at_every_kind(&rt, &cases)
+    run_at_every_kind(&rt, &cases, &[1, 2, 3, 255])
 }

@@ -1,9 +1,10 @@
 // The making of a call.
+use crate::given::Given;
 use crate::line::Line;
 use crate::reply::Reply;
 use bench::load;
 use calls::{area, cut, dilate, erode, join, meet, show_sheet, show_tally, span};
-use cases::Kind;
+use cases::first_levels;
 use in_use::BenchInUse;
 use levels::Mask;
 use levels::level::Level;
@@ -13,29 +14,28 @@ use std::io;
 use std::io::ErrorKind;
 
 // Makes the call of a line that fills a place of a rack. Its last number tells how many levels a load takes: the first or the last
-// ones of the kind's picture, or highest ones.
+// ones of the picture, or highest ones.
 fn fill<L: Level>(
     heap: Global,
-    kind: &Kind<'_, L>,
+    given: &Given<L>,
     bench: &mut BenchInUse<'_, L>,
     line: &Line<'_>,
 ) -> io::Result<Result<(), Fault>> {
     let rack = &mut bench.rack;
+    let picture = given.picture.as_slice();
     // A match, here and below: the words are the format.
     match (line.word, line.numbers.as_slice()) {
-        ("load", [place, len]) => Ok(load(rack, *place, kind.first(*len))),
+        ("load", [place, len]) => Ok(load(rack, *place, first_levels(picture, *len))),
         ("load-last", [place, len]) => {
-            let (_, picture) = kind
-                .picture
-                .split_at(kind.picture.len().saturating_sub(*len));
-            Ok(load(rack, *place, picture))
+            let (_, last) = picture.split_at(picture.len().saturating_sub(*len));
+            Ok(load(rack, *place, last))
         }
         ("load-highest", [place, len]) => {
-            let picture = vec![in heap; L::highest(); *len]?;
-            Ok(load(rack, *place, picture.as_slice()))
+            let highest = vec![in heap; L::highest(); *len]?;
+            Ok(load(rack, *place, highest.as_slice()))
         }
-        ("erode", [from, to]) => Ok(erode(rack, &kind.element, *from, *to)),
-        ("dilate", [from, to]) => Ok(dilate(rack, &kind.element, *from, *to)),
+        ("erode", [from, to]) => Ok(erode(rack, &given.element, *from, *to)),
+        ("dilate", [from, to]) => Ok(dilate(rack, &given.element, *from, *to)),
         ("meet", [one, other, to]) => Ok(meet(rack, *one, *other, *to)),
         ("join", [one, other, to]) => Ok(join(rack, *one, *other, *to)),
         _ => Err(ErrorKind::InvalidInput.into()),
@@ -45,7 +45,7 @@ fn fill<L: Level>(
 // Makes the call of a line. The last number of a call that writes a list is the list's length.
 pub(crate) fn make<L: Level>(
     heap: Global,
-    kind: &Kind<'_, L>,
+    given: &Given<L>,
     bench: &mut BenchInUse<'_, L>,
     line: &Line<'_>,
 ) -> io::Result<Reply<L>> {
@@ -73,6 +73,6 @@ pub(crate) fn make<L: Level>(
             let answer = cut(&bench.rack, height, *place, list.as_mut_slice());
             Ok(Reply::Mask(answer.into(), list))
         }
-        _ => Ok(Reply::Told(fill(heap, kind, bench, line)?.into())),
+        _ => Ok(Reply::Told(fill(heap, given, bench, line)?.into())),
     }
 }

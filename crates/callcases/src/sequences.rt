@@ -1,7 +1,9 @@
 // Sequences of calls on a rack and its slate.
-use crate::line::Line;
+use crate::given::Given;
+use crate::line::{Line, split_line};
 use crate::making::make;
 use cases::Kind;
+use elements::Element;
 use in_use::BenchInUse;
 use levels::level::Level;
 use std::io;
@@ -22,39 +24,37 @@ fn print_memory<L: Level>(rt: &HostRuntime, levels: &[L], numbers: &[i32]) -> io
 // Makes calls one after another, and prints each with its answer.
 fn make_all<L: Level>(
     rt: &HostRuntime,
-    kind: &Kind<'_, L>,
+    given: &Given<L>,
     bench: &mut BenchInUse<'_, L>,
     calls: &str,
 ) -> io::Result<()> {
     for call in calls.lines() {
         let line = Line::read(rt.alloc(), call)?;
-        let reply = make(rt.alloc(), kind, bench, &line)?;
+        let reply = make(rt.alloc(), given, bench, &line)?;
         println!(rt; "{call}: {reply}")?;
     }
     Ok(())
 }
 
-// The first line of a text, and the lines behind it.
-fn split_line(text: &str) -> (&str, &str) {
-    text.split_once('\n').unwrap_or((text, ""))
-}
-
 // Makes the calls of a sequence on a rack in memory of highest levels and a slate in memory of numbers 7: three lines with its title
-// and the sizes of the rack and of the slate, and then a line for each call. Prints the titles, each call with its answer,
-// and the sums of the memory after them. A visit that is open at the end is ended silently.
-pub(crate) fn make_sequence<L: Level>(
+// and the sizes of the rack and of the slate, then an element and a picture where they are given, and then a line for each call.
+// Prints the titles, each call with its answer, and the sums of the memory after them. A visit that is open at the end is ended
+// silently.
+pub(crate) fn make_sequence<K: Kind>(
     rt: &HostRuntime,
-    kind: &Kind<'_, L>,
+    kind: &K,
+    element: &Element,
     sequence: &str,
 ) -> io::Result<()> {
     let (title, rest) = split_line(sequence);
     let (rack, rest) = split_line(rest);
-    let (slate, calls) = split_line(rest);
+    let (slate, rest) = split_line(rest);
     let heap = rt.alloc();
-    println!(rt; "{title} ({})", kind.title)?;
+    println!(rt; "{title} ({kind})")?;
     let (sheets, levels_len) = Line::read(heap, rack)?.sizes("rack")?;
     let (tallies, numbers_len) = Line::read(heap, slate)?.sizes("slate")?;
-    let mut levels = vec![in heap; L::highest(); levels_len]?;
+    let (given, calls) = Given::read(heap, kind, element, rest)?;
+    let mut levels = vec![in heap; K::Level::highest(); levels_len]?;
     let mut numbers = vec![in heap; 7; numbers_len]?;
     let mut bench = BenchInUse::open(
         levels.as_mut_slice(),
@@ -62,7 +62,7 @@ pub(crate) fn make_sequence<L: Level>(
         numbers.as_mut_slice(),
         tallies,
     );
-    let printed = make_all(rt, kind, &mut bench, calls);
+    let printed = make_all(rt, &given, &mut bench, calls);
     let _ = bench.end();
     // Taken apart: a slip's own drop asks for something, so the check covers no drop of a struct that holds one.
     let BenchInUse {

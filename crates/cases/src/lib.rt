@@ -6,5 +6,5 @@ mod kind;
 mod kinds;
 
 pub use answer::{Answer, Heights};
-pub use kind::Kind;
+pub use kind::{Kind, first_levels};
 pub use kinds::{Cases, run_at_every_kind};

@@ -11,12 +11,10 @@ use levels::level::Level;
 use limits::Fault;
 use morphology::{ByElement, CellByCell, Extremum, Operation};
 
-// The names of the four calls are the users', so each stands over `Rack::make`. What each refuses, and in which order, is the same:
-// a place that the rack has not (5), no visit open (31), and a source place that is empty (34); a refusal changes nothing. Of the places
-// exactly the target's cells change, and the working planes are left as they may be.
+// The names of the four calls are the users', so each stands over `Rack::make`, which tells what memory holds afterwards.
 
 /// Fills the place `to` with the erosion by an element of the sheet in the place `from`, which may be the same.
-/// Refuses 5, 31 and 34.
+/// Refuses 5, 31 and 34, as `Rack::make` does.
 pub fn erode<L: Level>(
     rack: &mut Rack<'_, L>,
     element: &Element,
@@ -33,7 +31,7 @@ pub fn erode<L: Level>(
 }
 
 /// Fills the place `to` with the dilation by an element of the sheet in the place `from`, which may be the same.
-/// Refuses 5, 31 and 34.
+/// Refuses 5, 31 and 34, as `Rack::make` does.
 pub fn dilate<L: Level>(
     rack: &mut Rack<'_, L>,
     element: &Element,
@@ -51,7 +49,7 @@ pub fn dilate<L: Level>(
 
 /// Fills the place `to` with the meet of the sheets in the places `one` and `other`: the lower of the two, cell by cell. Any
 /// of the three places may be the same.
-/// Refuses 5, 31 and 34.
+/// Refuses 5, 31 and 34, as `Rack::make` does.
 pub fn meet<L: Level>(
     rack: &mut Rack<'_, L>,
     one: usize,
@@ -68,7 +66,7 @@ pub fn meet<L: Level>(
 
 /// Fills the place `to` with the join of the sheets in the places `one` and `other`: the higher of the two, cell by cell. Any
 /// of the three places may be the same.
-/// Refuses 5, 31 and 34.
+/// Refuses 5, 31 and 34, as `Rack::make` does.
 pub fn join<L: Level>(
     rack: &mut Rack<'_, L>,
     one: usize,

@@ -15,7 +15,7 @@ use limits::Fault;
 use morphology::Extremum;
 
 /// Tells the area of the sheet in a place: the sum of its heights.
-/// Refuses a place that the rack has not (5), no visit open (31), and a place that is empty (34).
+/// Refuses 5, 31 and 34, as `Rack::sheet` does.
 pub fn area<L: Level>(rack: &Rack<'_, L>, place: usize) -> Result<u64, Fault>
     ensures { result ≡ area_answer (rack_state L.height rack.now) place }
 {
@@ -23,7 +23,7 @@ pub fn area<L: Level>(rack: &Rack<'_, L>, place: usize) -> Result<u64, Fault>
 }
 
 /// Tells the span of the sheet in a place: the spots of its least and of its greatest level, each the first in reading order.
-/// Refuses a place that the rack has not (5), no visit open (31), and a place that is empty (34).
+/// Refuses 5, 31 and 34, as `Rack::sheet` does.
 #[tactic(auto, using(crate::proofs::Spots::spots_are_first_extremes))]
 pub fn span<L: Level>(rack: &Rack<'_, L>, place: usize) -> Result<(Spot<L>, Spot<L>), Fault>
     ensures answers { spots_told L.height result ≡ span_answer (rack_state L.height rack.now) place }

@@ -26,8 +26,7 @@ pub fn check_sizes(working: u8, w: usize, h: usize, places: usize, len: usize) -
 
 // The names of the two calls are the users', so each stands over `check_sizes`.
 /// Whether memory of `len` levels serves a rack of that many places for sheets of w × h levels, with two working planes.
-/// Refuses a side that is not 1 to 1,024 (1), a number of places that is not 1 to 12 (2), and then a length that is not
-/// (places + 2) × w × h (3).
+/// Refuses 1, 2 and 3, as `check_sizes` does; the length has to be (places + 2) × w × h.
 pub fn check_rack(w: usize, h: usize, places: usize, len: usize) -> Result<(), Fault>
     ensures { result ≡ told (sizes_refusal 2 w h places len) }
 {
@@ -35,8 +34,7 @@ pub fn check_rack(w: usize, h: usize, places: usize, len: usize) -> Result<(), F
 }
 
 /// Whether memory of `len` numbers serves a slate of that many places for tallies of w × h numbers.
-/// Refuses a side that is not 1 to 1,024 (1), a number of places that is not 1 to 12 (2), and then a length that is not
-/// places × w × h (3).
+/// Refuses 1, 2 and 3, as `check_sizes` does; the length has to be places × w × h.
 pub fn check_slate(w: usize, h: usize, places: usize, len: usize) -> Result<(), Fault>
     ensures { result ≡ told (sizes_refusal 0 w h places len) }
 {

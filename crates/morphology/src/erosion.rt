@@ -38,7 +38,7 @@ pub fn operate<L: Level>(
 // The names of the two calls are the users', so each stands over `operate`.
 /// Writes the erosion of the sheet `from` of w × h levels by an element to the list `to`.
 /// Each cell becomes the least of the levels at the element's offsets from it; outside counts as lowest.
-/// Refuses a side that is not 1 to 1,024 (1), then a list that has not w × h levels (4), and then leaves `to` as it was.
+/// Refuses 1 and 4, as `operate` does, and then leaves `to` as it was.
 pub fn erode<L: Level>(
     from: &[L],
     to: &mut [L],
@@ -56,7 +56,7 @@ pub fn erode<L: Level>(
 
 /// Writes the dilation of the sheet `from` of w × h levels by an element to the list `to`.
 /// Each cell becomes the greatest of the levels at the opposites of the element's offsets from it; outside counts as lowest.
-/// Refuses a side that is not 1 to 1,024 (1), then a list that has not w × h levels (4), and then leaves `to` as it was.
+/// Refuses 1 and 4, as `operate` does, and then leaves `to` as it was.
 pub fn dilate<L: Level>(
     from: &[L],
     to: &mut [L],

@@ -29,7 +29,7 @@ fn wipe_numbers(memory: &mut [i32], places: usize)
 }
 
 impl<L: Level> Rack<'_, L> {
-    // Empties every place, closes the visit, and wipes the memory.
+    // Empties every place, closes the visit, and sets the memory to lowest levels.
     pub(crate) fn clear(&mut self)
         ensures state { rack_state L.height self.new ≡ ended (rack_state L.height self.old) }
         ensures memory { map L.height self.new.memory.now ≡ wiped (rack_outline self.old).places 0 (map L.height self.old.memory.now) }
@@ -41,7 +41,7 @@ impl<L: Level> Rack<'_, L> {
 }
 
 impl Slate<'_> {
-    // Empties every place, closes the visit, and wipes the memory.
+    // The same of a slate, whose memory is then zeros.
     pub(crate) fn clear(&mut self)
         ensures state { slate_state self.new ≡ ended (slate_state self.old) }
         ensures memory { self.new.memory.now ≡ wiped (slate_outline self.old).places (pos 0) self.old.memory.now }

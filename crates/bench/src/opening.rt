@@ -33,7 +33,7 @@ fn opened_marks<T: Copy>(working: u8, w: usize, h: usize, places: usize, len: us
     }
 }
 
-// Racks and slates keep an `open`, `sizes` and reading call each, over the same marks: one lends levels and the other numbers
+// Racks and slates keep an `open`, `clear`, `sizes` and reading call each, over the same marks: one lends levels and the other numbers
 // and a weight, and a type over both would have more parameters than these calls have lines.
 impl<'a, L: Level> Rack<'a, L> {
     /// Opens a rack: every place is empty, no visit is open and the memory is as it was.

@@ -1,4 +1,4 @@
-// Work on the cells of places and working planes, in the slices that a rack or a slate was lent.
+// Work on the cells of places and working planes, in the memory that a rack or a slate was lent.
 ghost use Rattle.std.specs.Prelude.{◌≡◌, ◌+◌, ◌*◌, ◌≤◌, map, length};
 ghost use Rattle.bench.specs.Calls.{made_from};
 ghost use Rattle.bench.specs.Model.{cells_from, overwritten};
@@ -25,7 +25,7 @@ pub(crate) fn part<T>(memory: &[T], start: usize, cells: usize) -> &[T]
 
 // Writes what a transformation makes of the sheets from two starts to the cells from a third, by way of the working planes, and
 // tells what the transformation tells.
-// No method: both parts of the memory are lent to it at once.
+// No method: it is lent the places and the working planes at once.
 pub(crate) fn make_place<T: Transform, L: Level>(
     transform: &T,
     sheets: &mut [L],

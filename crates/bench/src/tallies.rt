@@ -1,4 +1,4 @@
-// The calls on the tallies of a slate.
+// What the calls on tallies stand on: the sizes of a slate, and the tally in a place.
 ghost use Rattle.std.specs.Prelude.{◌≡◌, ◌*◌, ◌≤◌, length, Some, None, MatchResult};
 ghost use Rattle.bench.specs.Calls.{tally_refusal};
 ghost use Rattle.bench.specs.Model.{slate_outline, slate_state};

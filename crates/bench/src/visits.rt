@@ -38,8 +38,8 @@ pub fn begin<L: Level>(
 /// Ends a visit: every place of the rack and of the slate is then empty, all their memory is lowest or zero, the working
 /// planes too, and no visit is open. The slip is spent. A rack or a slate that was opened with wrong sizes has no places, and
 /// its memory stays as it was.
-/// Refuses no visit open on the rack (31), a slip of another flat (33), and a rack and a slate whose sides or visits
-/// differ (37); it then hands the slip back.
+/// Refuses no visit open on the rack (31), a slip of another flat (33), and a rack and a slate whose sides, or the flats of
+/// whose visits, differ (37); it then hands the slip back.
 pub fn end<L: Level>(
     rack: &mut Rack<'_, L>,
     slate: &mut Slate<'_>,

@@ -64,7 +64,7 @@ pub(crate) fn make_sequence<K: Kind>(
     );
     let printed = make_all(rt, &given, &mut bench, calls);
     let _ = bench.end();
-    // Taken apart: a slip's own drop asks for something, so the check covers no drop of a struct that holds one.
+    // Taken apart, as it has no drop.
     let BenchInUse {
         rack: _,
         slate: _,

@@ -64,8 +64,7 @@ pub fn meet<L: Level>(
     rack.make(&meet, one, other, to)
 }
 
-/// Fills the place `to` with the join of the sheets in the places `one` and `other`: the higher of the two, cell by cell. Any
-/// of the three places may be the same.
+/// Fills the place `to` with their join, likewise: the higher of the two, cell by cell.
 /// Refuses 5, 31 and 34, as `Rack::make` does.
 pub fn join<L: Level>(
     rack: &mut Rack<'_, L>,

@@ -1,6 +1,6 @@
 // Answers, as they are printed.
 ghost use Rattle.std.specs.Prelude.{◌≡◌, Some};
-ghost use Rattle.cases.specs.Texts.{answer_text, heights_text, nothing_told, number_told};
+ghost use Rattle.cases.specs.Texts.{printed_answer, heights_text, with_no_number, with_number};
 
 use levels::level::Level;
 use limits::Fault;
@@ -11,7 +11,7 @@ use std::fmt;
 pub struct Answer(pub Result<Option<u64>, Fault>);
 
 impl From<Result<(), Fault>> for Answer {
-    ghost from_gives = { λ answer printed. printed.0 ≡ nothing_told answer };
+    ghost from_gives = { λ answer printed. printed.0 ≡ with_no_number answer };
 
     fn from(answer: Result<(), Fault>) -> Answer {
         Answer(answer.map(|()| None))
@@ -19,7 +19,7 @@ impl From<Result<(), Fault>> for Answer {
 }
 
 impl From<Result<u64, Fault>> for Answer {
-    ghost from_gives = { λ answer printed. printed.0 ≡ number_told answer };
+    ghost from_gives = { λ answer printed. printed.0 ≡ with_number answer };
 
     fn from(answer: Result<u64, Fault>) -> Answer {
         Answer(answer.map(Some))
@@ -27,7 +27,7 @@ impl From<Result<u64, Fault>> for Answer {
 }
 
 impl fmt::Display for Answer {
-    ghost output = { λ answer. Some (answer_text answer.0) };
+    ghost output = { λ answer. Some (printed_answer answer.0) };
 
     fn fmt<W: fmt::Write>(&self, f: &mut fmt::Formatter<W>) -> fmt::Result {
         match self.0 {

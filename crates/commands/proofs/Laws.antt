@@ -11,7 +11,7 @@ use Rattle.text.proofs.Misfits.{misfit_at_once, misfit_after}
 use Rattle.commands.specs.declared.Command.{Command}
 use Rattle.commands.specs.declared.Command.TheVariants.{Begin, Load, Erode, Dilate, Area, End}
 use Rattle.commands.specs.Lines.{letter, numbers, spaced, command_text, AllInRange, InRange, Lawful}
-use Rattle.commands.specs.Reading.{arguments, Kind, one, two, kind, made, made_by, command_or_misfit, by_column, read, ReadsBackLines, ReadsOnlyLines, RefusesLinesAtMisfit}
+use Rattle.commands.specs.Reading.{arguments, CommandKind, one, two, command_kind, made, made_by, command_or_misfit, by_column, read, ReadsBackLines, ReadsOnlyLines, RefusesLinesAtMisfit}
 
 clear : (count : ℕ) → Clear (arguments count)
 clear zero = tt
@@ -41,7 +41,7 @@ in_range_taken (suc count) (n ∷ ns) rest takes =
     record { long = ap suc more.long; range = (takes.1, more.range); ends = more.ends }
 
 -- the letter and the numbers of a kind's command are those that it was made of
-record Makes (l : ℕ) (k : Kind) : Type 0 where
+record Makes (l : ℕ) (k : CommandKind) : Type 0 where
   same_letter : (ns : List ℕ) → letter (k.make ns) ≡ l
   same_numbers : (ns : List ℕ) → length ns ≡ k.count → numbers (k.make ns) ≡ ns
 
@@ -62,12 +62,12 @@ makes_two l make same_letter same_numbers = record { same_letter = λ ns. same_l
     pair (m ∷ n ∷ []) long = same_numbers m n
     pair (m ∷ n ∷ k ∷ ns) long = absurd (omega arith)
 
-Known : ℕ → Option Kind → Type 0
+Known : ℕ → Option CommandKind → Type 0
 Known l None = Unit {0}
 Known l (Some k) = Makes l k
 
 -- each letter of the table makes commands of that letter
-known : (l : ℕ) → Known l (kind l)
+known : (l : ℕ) → Known l (command_kind l)
 unfolding Known
 known l =
     cond_both (eqb l 86) _ _ (Known l) (λ e. makes_one l Begin (λ _. sym (eqb-true l 86 e)) (λ _. refl))
@@ -78,17 +78,17 @@ known l =
     (λ _. cond_both (eqb l 88) _ _ (Known l) (λ e. record { same_letter = λ _. sym (eqb-true l 88 e); same_numbers = λ ns long. sym (nil_from_length ns long) })
     (λ _. tt))))))
 
-makes : (l : ℕ) (k : Kind) → kind l ≡ Some k → Makes l k
+makes : (l : ℕ) (k : CommandKind) → command_kind l ≡ Some k → Makes l k
 unfolding Known
 makes l k is = subst (Known l) is (known l)
 
 -- each command is of its letter's kind
-record OfKind (command : Command) (k : Kind) : Type 0 where
-  is : kind (letter command) ≡ Some k
+record OfKind (command : Command) (k : CommandKind) : Type 0 where
+  is : command_kind (letter command) ≡ Some k
   count : k.count ≡ length (numbers command)
   made_of : k.make (numbers command) ≡ command
 
-kind_of : (command : Command) → (k : Kind) × OfKind command k
+kind_of : (command : Command) → (k : CommandKind) × OfKind command k
 kind_of (Begin flat) = (one Begin, record { is = refl; count = refl; made_of = refl })
 kind_of (Load place) = (one Load, record { is = refl; count = refl; made_of = refl })
 kind_of (Erode from to) = (two Erode, record { is = refl; count = refl; made_of = refl })
@@ -100,7 +100,7 @@ kind_of End = (record { count = 0; make = λ _. End }, record { is = refl; count
 of_numbers : (count : ℕ) (ns : List ℕ) → count ≡ length ns → written (arguments count) ns ++ [] ≡ spaced ns
 of_numbers count ns long = append-nil _ ∙ (ap (λ (k : ℕ). written (arguments k) ns) long ∙ same_text ns)
 
-line_of_arguments : (l : ℕ) (k : Kind) → Makes l k → (text : List ℕ) (o : OfForm (arguments k.count) text)
+line_of_arguments : (l : ℕ) (k : CommandKind) → Makes l k → (text : List ℕ) (o : OfForm (arguments k.count) text)
     → (l ∷ text ≡ command_text (k.make o.numbers)) × InRange (k.make o.numbers)
 line_of_arguments l k m text o =
     let line = in_range_taken k.count o.numbers o.rest o.takes in
@@ -111,14 +111,14 @@ line_of_arguments l k m text o =
       subst AllInRange (sym same) line.range,
     )
 
-arguments_of_line : (l : ℕ) (k : Kind) → kind l ≡ Some k → (text : List ℕ) → Lawful (l ∷ text) → OfForm (arguments k.count) text
+arguments_of_line : (l : ℕ) (k : CommandKind) → command_kind l ≡ Some k → (text : List ℕ) → Lawful (l ∷ text) → OfForm (arguments k.count) text
 arguments_of_line l k is text (command, range, same) =
     let of = (kind_of command).1 in
     let same_l : l ≡ letter command = cc in
     let count : k.count ≡ length (numbers command) =
-    let one_kind : Some k ≡ Some (kind_of command).0 = sym is ∙ (ap kind same_l ∙ of.is) in
+    let one_kind : Some k ≡ Some (kind_of command).0 = sym is ∙ (ap command_kind same_l ∙ of.is) in
     let same_k : k ≡ (kind_of command).0 = cc in
-    ap (λ (j : Kind). j.count) same_k ∙ of.count in
+    ap (λ (j : CommandKind). j.count) same_k ∙ of.count in
     let spelled : text ≡ spaced (numbers command) = cc in
     record {
       numbers = numbers command;
@@ -134,7 +134,7 @@ Read line command = (line ≡ command_text command) × InRange command
 abbrev Misfits : List ℕ → Misfit → Type 0
 Misfits line misfit = FirstMisfit Lawful line misfit.place
 
-no_kind : (line : List ℕ) → kind (get_or line 0 0) ≡ None → FirstMisfit Lawful line 0
+no_kind : (line : List ℕ) → command_kind (get_or line 0 0) ≡ None → FirstMisfit Lawful line 0
 no_kind line none = misfit_at_once Lawful (command_text End) (End, tt, refl) line apart
   where
     apart : (other : List ℕ) → Lawful other → take 1 other ≡ take 1 line → ⊥
@@ -142,10 +142,10 @@ no_kind line none = misfit_at_once Lawful (command_text End) (End, tt, refl) lin
         let of = (kind_of command).1 in
         let first : get_or line 0 0 ≡ letter command =
         sym (get_or-take 1 line 0 0 (omega arith)) ∙ (ap (λ (t : List ℕ). get_or t 0 0) (sym start) ∙ (get_or-take 1 other 0 0 (omega arith) ∙ ap (λ (t : List ℕ). get_or t 0 0) same)) in
-        let never : ◌≡◌ {A = Option Kind} None (Some (kind_of command).0) = sym none ∙ (ap kind first ∙ of.is) in
+        let never : ◌≡◌ {A = Option CommandKind} None (Some (kind_of command).0) = sym none ∙ (ap command_kind first ∙ of.is) in
         let z : ◌≡◌ {A = ℕ} 0 1 = cc in omega arith
 
-some_kind : (l : ℕ) (text : List ℕ) (k : Kind) → kind l ≡ Some k → (r : Result NumbersRead Misfit)
+some_kind : (l : ℕ) (text : List ℕ) (k : CommandKind) → command_kind l ≡ Some k → (r : Result NumbersRead Misfit)
     → scan (arguments k.count) (l ∷ text) 1 ≡ r → MatchResult (made k r) (Read (l ∷ text)) (Misfits (l ∷ text))
 some_kind l text k is (Ok reading) answer =
     let was = reads_what_was_written (arguments k.count) (l ∷ text) 1 reading (clear k.count) (omega arith) answer in
@@ -158,7 +158,7 @@ some_kind l text k is (Err misfit) answer =
     (λ t o. let line = line_of_arguments l k (makes l k is) t o in (k.make o.numbers, line.1, line.0))
     (λ t _ lawful. arguments_of_line l k is t lawful) refused.first)
 
-by_kind : (line : List ℕ) (o : Option Kind) → kind (get_or line 0 0) ≡ o → MatchResult (made_by o line) (Read line) (Misfits line)
+by_kind : (line : List ℕ) (o : Option CommandKind) → command_kind (get_or line 0 0) ≡ o → MatchResult (made_by o line) (Read line) (Misfits line)
 by_kind line None is = no_kind line is
 by_kind [] (Some k) is = let z : ◌≡◌ {A = ℕ} 0 1 = cc in absurd (omega arith)
 by_kind (l ∷ text) (Some k) is = some_kind l text k is (scan (arguments k.count) (l ∷ text) 1) refl
@@ -171,7 +171,7 @@ from_one line (Err misfit) holds = (omega arith, subst (FirstMisfit Lawful line)
 -- what a line reads as is its command, or its first misfit
 read_or_first_misfit : (line : List ℕ)
     → MatchResult (read line) (Read line) (λ fault. (1 ≤ fault.column) × FirstMisfit Lawful line (fault.column - 1))
-read_or_first_misfit line = from_one line (command_or_misfit line) (by_kind line (kind (get_or line 0 0)) refl)
+read_or_first_misfit line = from_one line (command_or_misfit line) (by_kind line (command_kind (get_or line 0 0)) refl)
 
 pub reads_only_lines : ReadsOnlyLines
 reads_only_lines line command answer = MatchResult-at_ok (Read line) _ command answer (read_or_first_misfit line)
@@ -187,5 +187,5 @@ reads_back_lines command range =
     let ns : List ℕ = numbers command in
     let takes : Takes (arguments k.count) ns [] = subst (λ (n : ℕ). Takes (arguments n) ns []) (sym of.count) (takes_in_range ns range) in
     let scanned = reads_back (arguments k.count) ns [] (command_text command) 1 (clear k.count) takes (omega arith) (sym (of_numbers k.count ns of.count)) in
-    ap (λ (o : Option Kind). by_column (made_by o (command_text command))) of.is
+    ap (λ (o : Option CommandKind). by_column (made_by o (command_text command))) of.is
     ∙ (ap (λ (r : Result NumbersRead Misfit). by_column (made k r)) scanned ∙ ap Ok of.made_of)

@@ -21,21 +21,21 @@ TellsArguments count line r =
     (λ misfit. scan (arguments count) line 1 ≡ Err misfit)
 
 -- a kind of command: how many numbers it has, and the command of them
-pub record Kind : Type 0 where
+pub record CommandKind : Type 0 where
   pub count : ℕ
   pub make : List ℕ → Command
 
 -- a kind of command with one number
-abbrev pub one : (ℕ → Command) → Kind
+abbrev pub one : (ℕ → Command) → CommandKind
 one make = record { count = 1; make = λ ns. make (slice_index ns 0) }
 
 -- a kind of command with two numbers
-abbrev pub two : (ℕ → ℕ → Command) → Kind
+abbrev pub two : (ℕ → ℕ → Command) → CommandKind
 two make = record { count = 2; make = λ ns. make (slice_index ns 0) (slice_index ns 1) }
 
 -- the kind that a letter stands for
-abbrev pub kind : ℕ → Option Kind
-kind l =
+abbrev pub command_kind : ℕ → Option CommandKind
+command_kind l =
     cond (l == 86) (Some (one Begin))
     (cond (l == 76) (Some (one Load))
     (cond (l == 69) (Some (two Erode))
@@ -45,18 +45,18 @@ kind l =
     None)))))
 
 -- the command of what was read after its letter
-abbrev pub made : Kind → Result NumbersRead Misfit → Result Command Misfit
+abbrev pub made : CommandKind → Result NumbersRead Misfit → Result Command Misfit
 made k (Ok reading) = Ok (k.make reading.numbers)
 made k (Err misfit) = Err misfit
 
 -- the command that a line of this kind tells; a letter of no kind is the first misfit
-abbrev pub made_by : Option Kind → List ℕ → Result Command Misfit
+abbrev pub made_by : Option CommandKind → List ℕ → Result Command Misfit
 made_by None line = refused_at 0
 made_by (Some k) line = made k (scan (arguments k.count) line 1)
 
 -- the command on a line, or the place of the first misfit, from 0
 abbrev pub command_or_misfit : List ℕ → Result Command Misfit
-command_or_misfit line = made_by (kind (slice_index line 0)) line
+command_or_misfit line = made_by (command_kind (slice_index line 0)) line
 
 -- columns count from 1
 abbrev pub by_column : Result Command Misfit → Result Command LineFault

@@ -4,7 +4,7 @@ use Rattle.bench.specs.Model.{flat_of, rack_state, slate_state}
 use Rattle.in_use.specs.declared.bench_in_use.BenchInUse.{BenchInUse}
 use Rattle.model.specs.Steps.{Bench}
 
--- the bench of a rack, whose levels have these heights, and its slate
+-- the model's bench that a bench in use is, by the heights of its levels
 abbrev pub bench_of : {L : Type 0} → (L → ℕ) → BenchInUse L → Bench
 bench_of height bench = record { rack = rack_state height bench.rack; slate = slate_state bench.slate }
 

@@ -13,8 +13,8 @@ pub struct Sizes {
     pub places: usize,
 }
 
-/// A rack and its slate, and the slip of the visit that is open on them, if one is. It is not `Drop`: who takes it apart has
-/// first to end that visit.
+/// A rack and its slate, and the slip of the visit that is open on them, if one is. It is not `Drop`, since a slip's own drop asks
+/// for something: who takes it apart has first to end that visit.
 pub struct BenchInUse<'a, L> {
     pub rack: Rack<'a, L>,
     pub slate: Slate<'a>,

@@ -23,7 +23,7 @@ call_of element picture on_slip (Dilate from to) = calls.Dilate element from to
 call_of element picture on_slip (Area place) = calls.Area place
 call_of element picture on_slip End = calls.End on_slip
 
--- the numbers that a line tells of what its call tells: an area, or the entries of a spectrum
+-- the numbers that a line tells of what its call tells: an area, or the entries and the rest of a spectrum
 abbrev pub numbers_told : Told → List ℕ
 numbers_told (AreaTold area) = area ∷ []
 numbers_told (SpectrumTold entries) = entries

@@ -76,7 +76,7 @@ fn run_picture(
         bench,
     };
     let printed = run_lines(heap, &mut job, input);
-    // Taken apart: a slip's own drop asks for something, so the check covers no drop of a struct that holds one.
+    // Taken apart: a bench in use has no drop.
     let _ = job.bench.end();
     let Job {
         element: _,
@@ -95,7 +95,8 @@ fn run_picture(
 
 /// Runs a job: tells what is printed for the bytes of an element card, of a picture file and of job lines.
 /// A fault of the card, of the picture or a side above 96 is printed with line 0, and is then all; else there is an
-/// answer for each line. Errs only for want of memory.
+/// answer for each line. Errs only for want of memory. What holds of every job is stated in `specs/Theorems.antt`.
+#[tactic(auto, using(crate::proofs::CutJobs::sums_of_cut_jobs, crate::proofs::JobLaws::refused_lines_change_nothing))]
 pub fn run_job(heap: Global, card: &[u8], file: &[u8], input: &[u8]) -> Result<String, AllocError>
     ensures printed { IfOk result (λ out. string_bytes out ≡ printed card.now file.now input.now) }
     ensures lines { OneAnswerALine }

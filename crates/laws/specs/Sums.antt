@@ -2,7 +2,7 @@
 use Rattle.std.specs.Prelude.{◌≡◌, ℕ, zero, suc, ◌+◌, ◌≤◌, max, List, length, ℤ, pos, ◌+ℤ◌, slice_index, slice_index_or}
 use Rattle.morphology.specs.Cells.{cut}
 
--- what an operation makes of f(1) to f(top), one after the other, from a start
+-- what a function of two makes of f(1) to f(top), one after the other, from a start
 abbrev pub fold_heights : {X : Type 0} → (X → X → X) → X → ℕ → (ℕ → X) → X
 fold_heights op start zero f = start
 fold_heights op start (suc a) f = op (fold_heights op start a f) (f (suc a))
@@ -18,7 +18,7 @@ int_sum_to = fold_heights ◌+ℤ◌ (pos 0)
 abbrev pub greatest_to : ℕ → (ℕ → ℕ) → ℕ
 greatest_to = fold_heights max 0
 
--- All lists f(1), f(2) and so on are as long as this one, and the operation makes this one of the first `top` of them, number by
+-- All lists f(1), f(2) and so on are as long as this one, and the function makes this one of the first `top` of them, number by
 -- number.
 pub record ListFold {X : Type 0} (op : X → X → X) (start : X) (top : ℕ) (xs : List X) (f : ℕ → List X) : Type 0 where
   pub as_long : (a : ℕ) → 1 ≤ a → length (f a) ≡ length xs

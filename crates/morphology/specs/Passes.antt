@@ -1,4 +1,4 @@
--- What one pass of an offset over a sheet does, for erosion and dilation alike. Assumes nothing.
+-- Which of two heights is kept, and what one pass of an offset over a sheet does. Assumes nothing.
 use Rattle.std.specs.Prelude.{ℕ, ◌+◌, ◌-◌, ◌*◌, ◌/◌, ◌%◌, min, max, Bool, cond, ◌&&◌, List, map, ℤ, pos, ◌+ℤ◌, ◌-ℤ◌, fold, nat_le, nat_lt, slice_index}
 use Rattle.morphology.specs.Sheets.{height_at}
 use Rattle.morphology.specs.declared.extremum.Extremum.{Extremum}

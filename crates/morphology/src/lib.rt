@@ -1,4 +1,4 @@
-// Erosion and dilation of sheets of any level kind.
+// Erosion and dilation of sheets of any level kind, and what makes a sheet of one or two others.
 #![tactic(auto)]
 
 mod erosion;

@@ -1,4 +1,4 @@
-// Runs of contiguous cells: the inner loops of erosion and dilation.
+// Contiguous cells combined one by one: the inner loops of erosion, dilation, meet and join.
 ghost use Rattle.std.specs.Prelude.{◌≡◌, map, length, replicate};
 ghost use Rattle.morphology.specs.Cells.{combined};
 

@@ -1,4 +1,5 @@
--- Worked figures of the operators, each beside what it has to be. Assumes nothing.
+-- Worked figures of the operators, each beside what it has to be, of lines of cells and by the element `pair`, (0, 0) and (1, 0).
+-- Assumes nothing.
 use Rattle.std.specs.Prelude.{◌≡◌, ℕ, Bool, true, ◌&&◌, List, [], ◌∷◌, map, replicate, ℤ, pos, negsuc, ◌==◌}
 use Rattle.std.specs.List.{list_all}
 use Rattle.std.specs.Ordering.{int_eq}
@@ -15,8 +16,6 @@ use Rattle.operators.specs.Skeletons.{skeleton}
 use Rattle.operators.specs.Spectra.{opening_spectrum, spectrum}
 use Rattle.operators.specs.Tallies.{added, differed, edge, peak, scaled}
 use Rattle.operators.specs.Valleys.{valley}
-
--- The figures are of lines of w cells, and of the element `pair`, which has (0, 0) and (1, 0).
 
 -- The line of five cells that most figures are of, and its skeleton.
 abbrev line : List ℕ

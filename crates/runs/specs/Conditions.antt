@@ -149,7 +149,7 @@ applies rack slate call EmptySheet = fails rack.outline.filled (sheets_read call
 applies rack slate call EmptyTally = fails slate.outline.filled (tallies_read call)
 -- the tally to be made would weigh more than 1,000
 applies rack slate call Weight = fails lawful_weight (tallies_made slate call)
--- rack and slate are taken together and differ in their sides or their visits
+-- rack and slate are taken together and differ in their sides or in the flats of their visits
 applies rack slate call Unequal = takes_both call && not (equal_benches rack.outline slate.outline)
 -- the others are refusals of openings, and of calls without a bench
 applies rack slate call fault = false

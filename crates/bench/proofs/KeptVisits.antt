@@ -1,11 +1,10 @@
--- What the calls on sheets keep of a visit, and when end is not refused. Assumes nothing.
-use Rattle.std.proofs.Common.{◌≡◌, ℕ, List, Some, None, Option, Result, sym, refl, ap, ◌∙◌}
-use Rattle.std.proofs.lemmas.Bool.{eq-eqb}
+-- What the calls on sheets keep of a visit, of sides and of places. Assumes nothing.
+use Rattle.std.proofs.Common.{◌≡◌, ℕ, List, Some, None, Option, Result, ap}
 use Rattle.limits.specs.declared.fault.Fault.{Fault}
 use Rattle.limits.specs.Faults.{unless}
 use Rattle.bench.specs.declared.rack.Rack.{Rack}
-use Rattle.bench.specs.Model.{Outline, State, rack_outline, rack_state, shared}
-use Rattle.bench.specs.Calls.{Making, MakesSheet, OfTwo, end_refusal, stored}
+use Rattle.bench.specs.Model.{State, rack_outline, rack_state, shared}
+use Rattle.bench.specs.Calls.{Making, MakesSheet, OfTwo, stored}
 
 -- a call that fills a place, or is refused, keeps the visit and the sides
 pub stored_shared : (o : Option Fault) (s after : State (List ℕ)) (k : ℕ) (cells : List ℕ) → after ≡ unless o (stored s k cells) s → shared after.outline ≡ shared s.outline
@@ -17,16 +16,10 @@ pub stored_places : (o : Option Fault) (s after : State (List ℕ)) (k : ℕ) (c
 stored_places None s after k cells is = ap (λ t. t.outline.places) is
 stored_places (Some f) s after k cells is = ap (λ t. t.outline.places) is
 
-module _ {L T : Type 0} (height : L → ℕ) (made : Making) (told : OfTwo T) (was is : Rack L) (one other to : ℕ) (answer : Result T Fault)
-    (makes : MakesSheet height made told was is one other to answer) where
+module _ {L T : Type 0} (height : L → ℕ) (made : Making) (report : OfTwo T) (was is : Rack L) (one other to : ℕ) (answer : Result T Fault)
+    (makes : MakesSheet height made report was is one other to answer) where
   pub made_shared : shared (rack_outline is) ≡ shared (rack_outline was)
   made_shared = stored_shared _ (rack_state height was) (rack_state height is) to _ makes.steps
 
   pub made_places : (rack_outline is).places ≡ (rack_outline was).places
   made_places = stored_places _ (rack_state height was) (rack_state height is) to _ makes.steps
-
--- end is not refused where the visit on both is to the slip's flat
-pub end_accepted : (flat : ℕ) (r s : Outline) → r.visit ≡ Some (record { flat = flat }) → shared r ≡ shared s → end_refusal r s flat ≡ None
-end_accepted flat r s on_rack same =
-    let other : s.visit ≡ Some (record { flat = flat }) = sym (ap (λ x. x.0) same) ∙ on_rack in
-    rw (on_rack, other, eq-eqb flat flat refl, eq-eqb r.w s.w (ap (λ x. x.1) same), eq-eqb r.h s.h (ap (λ x. x.2) same)) refl

@@ -3,11 +3,10 @@ use Rattle.std.specs.Prelude.{ℕ, ◌*◌, Bool, true, false, cond, not, ◌&&�
 use Rattle.std.specs.Borrow.{MutBor}
 use Rattle.limits.specs.declared.fault.Fault.{Fault}
 use Rattle.limits.specs.declared.fault.Fault.TheVariants.{Length, SheetPlace, TallyPlace, Flat, NoVisit, VisitOpen, OtherFlat, EmptySheet, EmptyTally, Unequal}
-use Rattle.bench.specs.declared.marks.Marks.{Marks}
-use Rattle.limits.specs.Faults.{first, tells, told, unless}
+use Rattle.limits.specs.Faults.{first, tells, unless}
 use Rattle.limits.specs.Sizes.{lawful_flat, sizes_refusal}
 use Rattle.bench.specs.declared.rack.Rack.{Rack}
-use Rattle.bench.specs.Model.{Outline, State, cells_from, flat_of, is_place, overwritten, place_start, places_of, rack_outline, rack_state, sheet_of}
+use Rattle.bench.specs.Model.{Outline, State, cells_from, flat_of, is_place, overwritten, place_start, places_of, rack_outline, rack_state, sheet_of, visit_to}
 
 -- every place empty, and no visit open
 abbrev pub opened : {C : Type 0} → ℕ → ℕ → ℕ → State C
@@ -63,7 +62,7 @@ make_refusal o one other to =
     (first (not (is_some o.visit)) NoVisit
     (first (not (o.filled one && o.filled other)) EmptySheet None))
 
--- what is made or told of two sheets, by their sides
+-- what is made or reported of two sheets, by their sides
 abbrev pub OfTwo : Type 0 → Type 0
 OfTwo X = ℕ → ℕ → List ℕ → List ℕ → X
 
@@ -71,43 +70,39 @@ OfTwo X = ℕ → ℕ → List ℕ → List ℕ → X
 abbrev pub Making : Type 0
 Making = OfTwo (List ℕ)
 
--- what is made or told of the sheets from two starts in memory of heights, and of those in two places
+-- what is made or reported of the sheets from two starts in memory of heights, and of those in two places
 abbrev pub made_from : {X : Type 0} → OfTwo X → ℕ → ℕ → ℕ → ℕ → List ℕ → X
 made_from made w h one other heights = made w h (cells_from one (w * h) heights) (cells_from other (w * h) heights)
 
 abbrev pub made_of : {X : Type 0} → OfTwo X → State (List ℕ) → ℕ → ℕ → X
 made_of made s one other = made s.outline.w s.outline.h (sheet_of s one) (sheet_of s other)
 
--- the state after a sheet was made, and the heights in the memory of all places after it
+-- the state after a sheet was made
 abbrev pub make_leaves : Making → State (List ℕ) → ℕ → ℕ → ℕ → State (List ℕ)
 make_leaves made s one other to =
     unless (make_refusal s.outline one other to) (stored s to (made_of made s one other)) s
-
-abbrev pub make_writes : {T : Type 0} → Making → Marks T → ℕ → ℕ → ℕ → List ℕ → List ℕ
-make_writes made m one other to heights =
-    let cells = m.w * m.h in
-    overwritten (place_start cells to) (made_from made m.w m.h (place_start cells one) (place_start cells other) heights) heights
 
 -- the memory is the one that was lent, and as long
 pub record SameMemory {X : Type 0} (was is : MutBor (List X)) : Type 0 where
   pub reference : is.ghost_name ≡ was.ghost_name
   pub long : length is.now ≡ length was.now
 
--- A call makes a sheet so: it tells its refusal, or what is told of the sources; leaves the state by its definition; and of the
+-- A call makes a sheet so: it tells its refusal, or what is reported of the sources; leaves the state by its definition; and of the
 -- places changes just the target's cells. The working planes are free, but a refusal leaves them too.
-pub record MakesSheet {L T : Type 0} (height : L → ℕ) (made : Making) (told : OfTwo T) (was is : Rack L) (one other to : ℕ)
+pub record MakesSheet {L T : Type 0} (height : L → ℕ) (made : Making) (report : OfTwo T) (was is : Rack L) (one other to : ℕ)
     (answer : Result T Fault) : Type 0 where
-  pub answers : answer ≡ tells (make_refusal (rack_outline was) one other to) (made_of told (rack_state height was) one other)
+  pub answers : answer ≡ tells (make_refusal (rack_outline was) one other to) (made_of report (rack_state height was) one other)
   pub steps : rack_state height is ≡ make_leaves made (rack_state height was) one other to
   pub memory : MatchResult answer
       (λ _. places_of was.marks (map height is.memory.now)
-      ≡ make_writes made was.marks one other to (places_of was.marks (map height was.memory.now)))
+      ≡ overwritten (place_start (was.marks.w * was.marks.h) to) (made_of made (rack_state height was) one other)
+      (places_of was.marks (map height was.memory.now)))
       (λ _. is.memory.now ≡ was.memory.now)
   pub lent : SameMemory was.memory is.memory
 
--- nothing is told of two sheets
-abbrev pub nothing_told : OfTwo (Unit {0})
-nothing_told w h f g = tt
+-- nothing is reported of two sheets
+abbrev pub no_report : OfTwo (Unit {0})
+no_report w h f g = tt
 
 -- the same flat, where no visit counts as a flat of its own
 abbrev pub same_flat : Option ℕ → Option ℕ → Bool
@@ -134,7 +129,7 @@ with_visit s flat = record {
     w = s.outline.w;
     h = s.outline.h;
     places = s.outline.places;
-    visit = Some (record { flat = flat });
+    visit = Some (visit_to flat);
     filled = s.outline.filled;
   };
   content = s.content;

@@ -1,5 +1,5 @@
 -- The state of a rack or a slate, as its users know it. Assumes nothing.
-use Rattle.std.specs.Prelude.{◌≡◌, ℕ, ◌+◌, ◌-◌, ◌*◌, Bool, cond, ◌&&◌, List, [], ◌++◌, map, length, take, drop, ℤ, is_some, Some, None, Option, nat_le, option_map, slice_index_or, unwrap_or}
+use Rattle.std.specs.Prelude.{◌≡◌, ℕ, ◌+◌, ◌-◌, ◌*◌, Bool, cond, ◌&&◌, List, [], ◌++◌, map, length, take, drop, ℤ, is_some, None, Option, nat_le, option_map, slice_index_or, unwrap_or}
 use Rattle.bench.specs.declared.marks.Marks.{Marks}
 use Rattle.bench.specs.declared.rack.Rack.{Rack}
 use Rattle.bench.specs.declared.slate.Slate.{Slate}
@@ -20,6 +20,10 @@ pub record Outline : Type 0 where
 pub record Tally : Type 0 where
   pub cells : List ℤ
   pub weight : ℕ
+
+-- the visit to a flat
+abbrev pub visit_to : ℕ → Visit
+visit_to flat = record { flat = flat }
 
 -- the flat of a visit, if one is open
 abbrev pub flat_of : Option Visit → Option ℕ
@@ -117,4 +121,4 @@ shared o = (o.visit, o.w, o.h)
 
 -- the visit that a slip was handed out for, if there is one
 abbrev pub slip_visit : Option Slip → Option Visit
-slip_visit slip = option_map (λ s. record { flat = s.flat }) slip
+slip_visit slip = option_map (λ s. visit_to s.flat) slip

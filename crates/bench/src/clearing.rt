@@ -29,7 +29,7 @@ fn wipe_numbers(memory: &mut [i32], places: usize)
 }
 
 impl<L: Level> Rack<'_, L> {
-    // Empties every place, closes the visit, and sets the memory to lowest levels.
+    // Empties every place, closes the visit, and sets the memory, where there are places, to lowest levels.
     pub(crate) fn clear(&mut self)
         ensures state { rack_state L.height self.new ≡ ended (rack_state L.height self.old) }
         ensures memory { map L.height self.new.memory.now ≡ wiped (rack_outline self.old).places 0 (map L.height self.old.memory.now) }

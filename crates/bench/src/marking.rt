@@ -88,13 +88,13 @@ impl<T: Copy> Marks<T> {
         self.filled[place - 1] = Some(content);
     }
 
-    // Opens a visit to a flat.
-    pub(crate) fn open(&mut self, flat: u16)
+    // Opens a visit.
+    pub(crate) fn open(&mut self, visit: Visit)
         ensures sizes { SameSizes self.old self.new }
-        ensures visit { self.new.visit ≡ Some (record { flat = flat }) }
+        ensures visit { self.new.visit ≡ Some visit }
         ensures filled { self.new.filled ≡ self.old.filled }
     {
-        self.visit = Some(Visit { flat });
+        self.visit = Some(visit);
     }
 
     // Closes the visit and empties every place.

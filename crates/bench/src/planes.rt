@@ -24,7 +24,7 @@ pub(crate) fn part<T>(memory: &[T], start: usize, cells: usize) -> &[T]
 }
 
 // Writes what a transformation makes of the sheets from two starts to the cells from a third, by way of the working planes, and
-// tells what the transformation tells.
+// tells what the transformation reports.
 // No method: it is lent the places and the working planes at once.
 pub(crate) fn make_place<T: Transform, L: Level>(
     transform: &T,
@@ -34,7 +34,7 @@ pub(crate) fn make_place<T: Transform, L: Level>(
     one: usize,
     other: usize,
     to: usize,
-) -> T::Told
+) -> T::Report
     requires one { one + sides.w * sides.h ≤ length sheets.old }
     requires other { other + sides.w * sides.h ≤ length sheets.old }
     requires target { to + sides.w * sides.h ≤ length sheets.old }
@@ -42,13 +42,13 @@ pub(crate) fn make_place<T: Transform, L: Level>(
     ensures made { map L.height sheets.new ≡ overwritten to
         (made_from (T.makes transform.now) sides.w sides.h one other (map L.height sheets.old))
         (map L.height sheets.old) }
-    ensures told { result ≡ made_from (T.told_of transform.now) sides.w sides.h one other (map L.height sheets.old) }
+    ensures reports { result ≡ made_from (T.report_of transform.now) sides.w sides.h one other (map L.height sheets.old) }
     ensures length { length (made_from (T.makes transform.now) sides.w sides.h one other (map L.height sheets.old))
         ≡ sides.w * sides.h }
 {
     let cells = sides.cells();
     let (plane, spare) = planes.split_at_mut(cells);
-    let told = transform
+    let report = transform
         .transform(
             part(sheets, one, cells),
             part(sheets, other, cells),
@@ -59,5 +59,5 @@ pub(crate) fn make_place<T: Transform, L: Level>(
         )
         .unwrap();
     store(sheets, to, plane);
-    told
+    report
 }

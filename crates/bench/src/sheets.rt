@@ -37,7 +37,7 @@ impl<L: Level> Rack<'_, L> {
     }
 
     /// Fills the place `to` with what a transformation makes of the sheets in the places `one` and `other`, and tells what the
-    /// transformation tells. Any of the three may be the same; the sources are read first.
+    /// transformation reports. Any of the three may be the same; the sources are read first.
     /// Refuses a place that the rack has not (5), no visit open (31), and a source place that is empty (34); a refusal changes
     /// nothing. Of the places exactly the target's cells change, and the working planes are left as they may be.
     pub fn make<T: Transform>(
@@ -46,8 +46,8 @@ impl<L: Level> Rack<'_, L> {
         one: usize,
         other: usize,
         to: usize,
-    ) -> Result<T::Told, Fault>
-        ensures { MakesSheet L.height (T.makes transform.now) (T.told_of transform.now) self.old self.new one other to result }
+    ) -> Result<T::Report, Fault>
+        ensures { MakesSheet L.height (T.makes transform.now) (T.report_of transform.now) self.old self.new one other to result }
     {
         let marks = &self.marks;
         marks.refuse_make(one, other, to)?;
@@ -59,7 +59,7 @@ impl<L: Level> Rack<'_, L> {
         let front = marks.places * cells;
         let memory = &mut *self.memory;
         let (sheets, planes) = memory.split_at_mut(front);
-        let told = make_place(
+        let report = make_place(
             transform,
             sheets,
             planes,
@@ -69,6 +69,6 @@ impl<L: Level> Rack<'_, L> {
             (to - 1) * cells,
         );
         self.marks.fill(to, ());
-        Ok(told)
+        Ok(report)
     }
 }

@@ -6,6 +6,7 @@ ghost use Rattle.bench.specs.Model.{rack_outline, rack_state, slate_outline, sla
 use crate::rack::Rack;
 use crate::slate::Slate;
 use crate::slip::{EndRefused, Slip};
+use crate::visit::Visit;
 use levels::level::Level;
 use limits::Fault;
 
@@ -30,8 +31,9 @@ pub fn begin<L: Level>(
     ensures slate_lent { SameMemory slate.old.memory slate.new.memory }
 {
     rack.marks.refuse_begin(&slate.marks, flat)?;
-    rack.marks.open(flat);
-    slate.marks.open(flat);
+    let visit = Visit { flat };
+    rack.marks.open(visit);
+    slate.marks.open(visit);
     Ok(Slip { flat })
 }
 

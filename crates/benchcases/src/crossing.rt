@@ -1,7 +1,7 @@
 // Slips that are tried on a rack or a slate of another visit.
 ghost use Rattle.std.specs.Prelude.{◌≡◌, ◌≤◌, ◌≢◌, ◌||◌, true, is_some, map, pos, Some, None};
 ghost use Rattle.bench.specs.Calls.{SameMemory, wiped};
-ghost use Rattle.bench.specs.Model.{rack_outline, shared, slate_outline};
+ghost use Rattle.bench.specs.Model.{rack_outline, shared, slate_outline, visit_to};
 
 use bench::{EndRefused, Rack, Slate, Slip, begin, end};
 use cases::Answer;
@@ -17,8 +17,8 @@ pub(crate) fn begin_free<L: Level>(rack: &mut Rack<'_, L>, slate: &mut Slate<'_>
     requires free { (rack_outline rack.old).visit ≡ None }
     requires same { shared (rack_outline rack.old) ≡ shared (slate_outline slate.old) }
     ensures flat { result.flat ≡ flat }
-    ensures rack { shared (rack_outline rack.new) ≡ (Some (record { flat = flat }), (rack_outline rack.old).w, (rack_outline rack.old).h) }
-    ensures slate { shared (slate_outline slate.new) ≡ (Some (record { flat = flat }), (slate_outline slate.old).w, (slate_outline slate.old).h) }
+    ensures rack { shared (rack_outline rack.new) ≡ (Some (visit_to flat), (rack_outline rack.old).w, (rack_outline rack.old).h) }
+    ensures slate { shared (slate_outline slate.new) ≡ (Some (visit_to flat), (slate_outline slate.old).w, (slate_outline slate.old).h) }
     ensures rack_places { (rack_outline rack.new).places ≡ (rack_outline rack.old).places }
     ensures slate_places { (slate_outline slate.new).places ≡ (slate_outline slate.old).places }
     ensures rack_lent { SameMemory rack.old.memory rack.new.memory }
@@ -29,7 +29,7 @@ pub(crate) fn begin_free<L: Level>(rack: &mut Rack<'_, L>, slate: &mut Slate<'_>
 
 // Ends a visit where end does not refuse.
 pub(crate) fn end_own<L: Level>(rack: &mut Rack<'_, L>, slate: &mut Slate<'_>, slip: Slip)
-    requires own { (rack_outline rack.old).visit ≡ Some (record { flat = slip.flat }) }
+    requires own { (rack_outline rack.old).visit ≡ Some (visit_to slip.flat) }
     requires same { shared (rack_outline rack.old) ≡ shared (slate_outline slate.old) }
     ensures rack { shared (rack_outline rack.new) ≡ (None, (rack_outline rack.old).w, (rack_outline rack.old).h) }
     ensures slate { shared (slate_outline slate.new) ≡ (None, (slate_outline slate.old).w, (slate_outline slate.old).h) }
@@ -58,7 +58,7 @@ fn begin_refused<L: Level>(rack: &mut Rack<'_, L>, slate: &mut Slate<'_>, flat: 
 
 // Tries to end a visit where the slip is not that of the rack or the slate is not the rack's; nothing changes.
 fn end_refused<L: Level>(rack: &mut Rack<'_, L>, slate: &mut Slate<'_>, slip: Slip) -> (Slip, Fault)
-    requires { (rack_outline rack.old).visit ≡ Some (record { flat = slip.flat }) → shared (rack_outline rack.old) ≢ shared (slate_outline slate.old) }
+    requires { (rack_outline rack.old).visit ≡ Some (visit_to slip.flat) → shared (rack_outline rack.old) ≢ shared (slate_outline slate.old) }
     ensures slip { result.0 ≡ slip }
     ensures rack { rack_outline rack.new ≡ rack_outline rack.old }
     ensures slate { slate_outline slate.new ≡ slate_outline slate.old }

@@ -52,10 +52,10 @@ pub(crate) fn make<L: Level>(
     match (line.word, line.numbers.as_slice()) {
         ("begin", [flat]) => {
             let flat = u16::try_from(*flat).map_err(|_| ErrorKind::InvalidInput)?;
-            Ok(Reply::Told(bench.begin(flat).into()))
+            Ok(Reply::Plain(bench.begin(flat).into()))
         }
-        ("end", []) => Ok(Reply::Told(bench.end().into())),
-        ("area", [place]) => Ok(Reply::Told(area(&bench.rack, *place).into())),
+        ("end", []) => Ok(Reply::Plain(bench.end().into())),
+        ("area", [place]) => Ok(Reply::Plain(area(&bench.rack, *place).into())),
         ("span", [place]) => Ok(Reply::Span(span(&bench.rack, *place))),
         ("show", [place, len]) => {
             let mut list = vec![in heap; L::highest(); *len]?;
@@ -73,6 +73,6 @@ pub(crate) fn make<L: Level>(
             let answer = cut(&bench.rack, height, *place, list.as_mut_slice());
             Ok(Reply::Mask(answer.into(), list))
         }
-        _ => Ok(Reply::Told(fill(heap, given, bench, line)?.into())),
+        _ => Ok(Reply::Plain(fill(heap, given, bench, line)?.into())),
     }
 }

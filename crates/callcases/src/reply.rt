@@ -9,7 +9,7 @@ use std::fmt;
 // What a call answers, and the list that it was to write.
 #[derive(Drop)]
 pub(crate) enum Reply<L> {
-    Told(Answer),
+    Plain(Answer),
     Span(Result<(Spot<L>, Spot<L>), Fault>),
     Sheet(Answer, Vec<L>),
     Mask(Answer, Vec<Mask>),
@@ -44,7 +44,7 @@ impl fmt::Display for Numbers<'_> {
 impl<L: Level> fmt::Display for Reply<L> {
     fn fmt<W: fmt::Write>(&self, f: &mut fmt::Formatter<W>) -> fmt::Result {
         match self {
-            Reply::Told(answer) => write!(f, "{answer}"),
+            Reply::Plain(answer) => write!(f, "{answer}"),
             Reply::Span(Ok((least, greatest))) => {
                 write!(f, "={}{}", Place(least), Place(greatest))
             }

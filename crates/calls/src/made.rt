@@ -1,8 +1,8 @@
 // The calls that make a sheet of others.
-ghost use Rattle.bench.specs.Calls.{MakesSheet, nothing_told};
+ghost use Rattle.bench.specs.Calls.{MakesSheet, no_report};
 ghost use Rattle.calls.specs.Made.{by_element};
 ghost use Rattle.elements.specs.Elements.{offsets};
-ghost use Rattle.morphology.specs.Cells.{met, joined};
+ghost use Rattle.morphology.specs.Cells.{combined, met, joined};
 ghost use Rattle.morphology.specs.declared.operation.Operation.TheVariants.{Erosion, Dilation};
 
 use bench::Rack;
@@ -11,7 +11,21 @@ use levels::level::Level;
 use limits::Fault;
 use morphology::{ByElement, CellByCell, Extremum, Operation};
 
-// The names of the four calls are the users', so each stands over `Rack::make`, which tells what memory holds afterwards.
+// The names of the four public calls are the users', so each stands over a private one, and these over `Rack::make`, which tells what
+// memory holds afterwards.
+
+// Fills a place with what an operation by an element makes of the sheet in another, or the same.
+fn operate<L: Level>(
+    rack: &mut Rack<'_, L>,
+    op: Operation,
+    element: &Element,
+    from: usize,
+    to: usize,
+) -> Result<(), Fault>
+    ensures { MakesSheet L.height (by_element op (offsets element.now)) no_report rack.old rack.new from from to result }
+{
+    rack.make(&ByElement { op, element }, from, from, to)
+}
 
 /// Fills the place `to` with the erosion by an element of the sheet in the place `from`, which may be the same.
 /// Refuses 5, 31 and 34, as `Rack::make` does.
@@ -21,13 +35,9 @@ pub fn erode<L: Level>(
     from: usize,
     to: usize,
 ) -> Result<(), Fault>
-    ensures { MakesSheet L.height (by_element Erosion (offsets element.now)) nothing_told rack.old rack.new from from to result }
+    ensures { MakesSheet L.height (by_element Erosion (offsets element.now)) no_report rack.old rack.new from from to result }
 {
-    let erosion = ByElement {
-        op: Operation::Erosion,
-        element,
-    };
-    rack.make(&erosion, from, from, to)
+    operate(rack, Operation::Erosion, element, from, to)
 }
 
 /// Fills the place `to` with the dilation by an element of the sheet in the place `from`, which may be the same.
@@ -38,13 +48,22 @@ pub fn dilate<L: Level>(
     from: usize,
     to: usize,
 ) -> Result<(), Fault>
-    ensures { MakesSheet L.height (by_element Dilation (offsets element.now)) nothing_told rack.old rack.new from from to result }
+    ensures { MakesSheet L.height (by_element Dilation (offsets element.now)) no_report rack.old rack.new from from to result }
 {
-    let dilation = ByElement {
-        op: Operation::Dilation,
-        element,
-    };
-    rack.make(&dilation, from, from, to)
+    operate(rack, Operation::Dilation, element, from, to)
+}
+
+// Fills a place with the meet or the join of the sheets in two others, or the same.
+fn combine<L: Level>(
+    rack: &mut Rack<'_, L>,
+    which: Extremum,
+    one: usize,
+    other: usize,
+    to: usize,
+) -> Result<(), Fault>
+    ensures { MakesSheet L.height (λ w h. combined which) no_report rack.old rack.new one other to result }
+{
+    rack.make(&CellByCell { which }, one, other, to)
 }
 
 /// Fills the place `to` with the meet of the sheets in the places `one` and `other`: the lower of the two, cell by cell. Any
@@ -56,15 +75,13 @@ pub fn meet<L: Level>(
     other: usize,
     to: usize,
 ) -> Result<(), Fault>
-    ensures { MakesSheet L.height (λ w h. met) nothing_told rack.old rack.new one other to result }
+    ensures { MakesSheet L.height (λ w h. met) no_report rack.old rack.new one other to result }
 {
-    let meet = CellByCell {
-        which: Extremum::Minimum,
-    };
-    rack.make(&meet, one, other, to)
+    combine(rack, Extremum::Minimum, one, other, to)
 }
 
-/// Fills the place `to` with their join, likewise: the higher of the two, cell by cell.
+/// Fills the place `to` with the join of the sheets in the places `one` and `other`, which may all be the same: the higher of
+/// the two, cell by cell.
 /// Refuses 5, 31 and 34, as `Rack::make` does.
 pub fn join<L: Level>(
     rack: &mut Rack<'_, L>,
@@ -72,10 +89,7 @@ pub fn join<L: Level>(
     other: usize,
     to: usize,
 ) -> Result<(), Fault>
-    ensures { MakesSheet L.height (λ w h. joined) nothing_told rack.old rack.new one other to result }
+    ensures { MakesSheet L.height (λ w h. joined) no_report rack.old rack.new one other to result }
 {
-    let join = CellByCell {
-        which: Extremum::Maximum,
-    };
-    rack.make(&join, one, other, to)
+    combine(rack, Extremum::Maximum, one, other, to)
 }

@@ -22,7 +22,7 @@ pub stored_own : (slip : Option Slip) (was is : State (List ℕ)) (slate : Outli
     → is ≡ unless o (stored was k cells) was → SlipOfVisit slip was.outline slate → SlipOfVisit slip is.outline slate
 stored_own slip was is slate o k cells steps = kept_own slip was.outline is.outline slate (stored_shared o was is k cells steps)
 
-pub made_own : {L T : Type 0} (slip : Option Slip) (height : L → ℕ) (made : Making) (told : OfTwo T) (was is : Rack L) (slate : Outline) (one other to : ℕ)
-    (answer : Result T Fault) → MakesSheet height made told was is one other to answer → SlipOfVisit slip (rack_outline was) slate → SlipOfVisit slip (rack_outline is) slate
-made_own slip height made told was is slate one other to answer makes =
-    kept_own slip (rack_outline was) (rack_outline is) slate (made_shared height made told was is one other to answer makes)
+pub made_own : {L T : Type 0} (slip : Option Slip) (height : L → ℕ) (made : Making) (report : OfTwo T) (was is : Rack L) (slate : Outline) (one other to : ℕ)
+    (answer : Result T Fault) → MakesSheet height made report was is one other to answer → SlipOfVisit slip (rack_outline was) slate → SlipOfVisit slip (rack_outline is) slate
+made_own slip height made report was is slate one other to answer makes =
+    kept_own slip (rack_outline was) (rack_outline is) slate (made_shared height made report was is one other to answer makes)

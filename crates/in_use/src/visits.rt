@@ -12,18 +12,20 @@ use levels::level::Level;
 use limits::Fault;
 
 impl<'a, L: Level> BenchInUse<'a, L> {
-    /// Opens a rack and a slate of these sizes in that memory: every place is empty and no visit is open. Wrong sizes open with
-    /// sides 0 and no places.
+    /// Opens a rack and a slate of these sizes in that memory, which is as it was: every place is empty and no visit is open. Wrong
+    /// sizes open with sides 0 and no places.
     pub fn open(
         levels: &'a mut [L],
         sheets: Sizes,
         numbers: &'a mut [i32],
         tallies: Sizes,
     ) -> BenchInUse<'a, L>
-        ensures { bench_of L.height result ≡ bench_opened (record {
+        ensures opened { bench_of L.height result ≡ bench_opened (record {
           rack = record { w = sheets.w; h = sheets.h; places = sheets.places; memory = length levels.old };
           slate = record { w = tallies.w; h = tallies.h; places = tallies.places; memory = length numbers.old };
         }) }
+        ensures levels { result.rack.memory.now ≡ levels.old }
+        ensures numbers { result.slate.memory.now ≡ numbers.old }
     {
         BenchInUse {
             rack: Rack::open(levels, sheets.w, sheets.h, sheets.places),

@@ -21,7 +21,8 @@ use Rattle.jobs.specs.Runs.{after_card, job_sizes, opened_bench, prepared, print
 use Rattle.jobs.specs.Theorems.{LineAnswerSum, SumsOfCutJobs}
 use Rattle.jobs.proofs.Levels.{heights_back, levels_of}
 use Rattle.jobs.proofs.LineRuns.{line_sums, lines_go, start}
-use Rattle.jobs.proofs.Printing.{answer_at, prints_answer}
+use Rattle.jobs.specs.Commands.{answer_at}
+use Rattle.jobs.proofs.Printing.{prints_answer}
 
 -- a job is accepted with the picture that its file reads as
 picture_read : (c : Result Element CardFault) (r : Result Picture PictureFault) (element : Element) (p : Picture) → after_card c r ≡ Ok (element, p) → r ≡ Ok p

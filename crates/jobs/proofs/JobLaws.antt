@@ -20,13 +20,13 @@ use Rattle.runs.proofs.FirstInOrder.{refusals_leave_the_bench}
 use Rattle.runs.proofs.RunLaws.{begun_same}
 use Rattle.jobs.specs.Answers.{answer_text}
 use Rattle.in_use.specs.InUse.{open_flat}
-use Rattle.jobs.specs.Commands.{LineAnswer, answer_to, call_of, leaves_after, line_answer, lines_leave, told_on_line}
+use Rattle.jobs.specs.Commands.{LineAnswer, answer_at, answer_to, call_of, leaves_after, line_answer, lines_leave, told_on_line}
 use Rattle.jobs.specs.Lines.{lines_of}
 use Rattle.jobs.specs.Runs.{job_sizes, opened_bench, prepared}
 use Rattle.jobs.specs.Theorems.{ForgettingJobs, OneAnswerALine, PrintsAlike, Prints, RefusedLinesChangeNothing}
 use Rattle.jobs.proofs.Levels.{heights_back, levels_of, topped}
 use Rattle.jobs.proofs.LineRuns.{lines_go, start}
-use Rattle.jobs.proofs.Printing.{answer_after, answer_at, answer_within, is_accepted, is_refused, job_accepted, one_for_each, prints_answer}
+use Rattle.jobs.proofs.Printing.{answer_after, answer_within, is_accepted, is_refused, job_accepted, one_for_each, prints_answer}
 
 -- each line is printed as its answer
 pub one_answer_a_line : OneAnswerALine

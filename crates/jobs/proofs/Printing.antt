@@ -1,5 +1,5 @@
 -- What is printed holds one line for each line of the input, the text of its answer. Assumes nothing.
-use Rattle.std.proofs.Common.{◌≡◌, ℕ, zero, suc, ◌+◌, ◌/◌, ◌%◌, ◌<◌, Bool, true, false, cond, eqb, List, [], ◌∷◌, ◌++◌, drop, take, length, get_or, Ok, Err, decimal, Result, refl, ap, ◌∙◌, sym, arith}
+use Rattle.std.proofs.Common.{◌≡◌, ℕ, zero, suc, ◌+◌, ◌/◌, ◌%◌, ◌<◌, Bool, true, false, cond, eqb, List, [], ◌∷◌, ◌++◌, drop, length, get_or, Ok, Err, decimal, Result, refl, ap, ◌∙◌, sym, arith}
 use Rattle.std.proofs.lemmas.Bool.Decides.{nat_tests}
 use Rattle.std.proofs.lemmas.Bool.{cond-false}
 use Rattle.std.proofs.lemmas.Fmt.{decimal_digit}
@@ -12,7 +12,7 @@ use Rattle.faults.specs.Faults.{fault_layer, fault_text, job_fault_number, job_f
 use Rattle.model.specs.Steps as model
 use Rattle.pictures.specs.declared.Picture as pictures
 use Rattle.jobs.specs.Answers.{answer_text}
-use Rattle.jobs.specs.Commands.{LineAnswer, line_answer, line_leaves, lines_leave}
+use Rattle.jobs.specs.Commands.{LineAnswer, answer_at, line_answer, line_leaves, lines_leave}
 use Rattle.jobs.specs.Lines.{lines_of, onto_first}
 use Rattle.jobs.specs.Runs.{opened_bench, prepared, printed, printed_for, printed_lines}
 use Rattle.jobs.specs.Theorems.{Prints}
@@ -69,10 +69,6 @@ line_first (b ∷ text) rest u =
     cond-false (eqb b 10) ([] ∷ lines_of (text ++ (10 ∷ rest))) (onto_first b (lines_of (text ++ (10 ∷ rest)))) u.0 ∙ ap (onto_first b) (line_first text rest u.1)
 
 module _ (element : Element) (picture : List ℕ) where
-  -- the answer to line k, on the bench that the lines before it leave
-  abbrev pub answer_at : model.Bench → List (List ℕ) → ℕ → LineAnswer
-  answer_at b lines k = line_answer element picture (lines_leave element picture b (take k lines)) (get_or lines k [])
-
   -- the texts of the answers, from line number k on
   abbrev texts : model.Bench → ℕ → List (List ℕ) → List (List ℕ)
   texts b k [] = []
@@ -90,21 +86,21 @@ module _ (element : Element) (picture : List ℕ) where
   as_many b k [] = refl
   as_many b k (line ∷ lines) = ap suc (as_many (line_leaves element picture b line) (k + 1) lines)
 
-  text_at : (b : model.Bench) (k j : ℕ) (lines : List (List ℕ)) → j < length lines → get_or (texts b k lines) j [] ≡ answer_text (k + j) (answer_at b lines j)
+  text_at : (b : model.Bench) (k j : ℕ) (lines : List (List ℕ)) → j < length lines → get_or (texts b k lines) j [] ≡ answer_text (k + j) (answer_at element picture b lines j)
   text_at b k j [] within = absurd (omega arith)
   text_at b k zero (line ∷ lines) within = ap (λ n. answer_text n (line_answer element picture b line)) (omega arith)
   text_at b k (suc j) (line ∷ lines) within =
       let next = line_leaves element picture b line in
-      text_at next (k + 1) j lines (omega arith) ∙ ap (λ n. answer_text n (answer_at next lines j)) (omega arith)
+      text_at next (k + 1) j lines (omega arith) ∙ ap (λ n. answer_text n (answer_at element picture next lines j)) (omega arith)
 
   -- the lines before a line, and those after some, by themselves
-  pub answer_within : (b : model.Bench) (before rest : List (List ℕ)) (k : ℕ) → k < length before → answer_at b (before ++ rest) k ≡ answer_at b before k
+  pub answer_within : (b : model.Bench) (before rest : List (List ℕ)) (k : ℕ) → k < length before → answer_at element picture b (before ++ rest) k ≡ answer_at element picture b before k
   answer_within b [] rest k within = absurd (omega arith)
   answer_within b (line ∷ before) rest zero within = refl
   answer_within b (line ∷ before) rest (suc k) within = answer_within (line_leaves element picture b line) before rest k (omega arith)
 
-  pub answer_after : (b : model.Bench) (before rest : List (List ℕ)) (j k : ℕ) → j ≡ length before + k → answer_at b (before ++ rest) j ≡ answer_at (lines_leave element picture b before) rest k
-  answer_after b [] rest j k is = ap (answer_at b rest) (omega arith)
+  pub answer_after : (b : model.Bench) (before rest : List (List ℕ)) (j k : ℕ) → j ≡ length before + k → answer_at element picture b (before ++ rest) j ≡ answer_at element picture (lines_leave element picture b before) rest k
+  answer_after b [] rest j k is = ap (answer_at element picture b rest) (omega arith)
   answer_after b (line ∷ before) rest zero k is = absurd (omega arith)
   answer_after b (line ∷ before) rest (suc j) k is = answer_after (line_leaves element picture b line) before rest j k (omega arith)
 

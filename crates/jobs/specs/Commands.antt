@@ -1,5 +1,5 @@
 -- The call on the bench that a command stands for, and what a line answers and leaves. Assumes nothing.
-use Rattle.std.specs.Prelude.{ℕ, List, [], ◌∷◌, Ok, Err, Result}
+use Rattle.std.specs.Prelude.{ℕ, List, [], ◌∷◌, take, Ok, Err, Result, slice_index_or}
 use Rattle.std.specs.Result.{result_map_both}
 use Rattle.elements.specs.declared.element.Element.{Element}
 use Rattle.commands.specs.declared.Command.{Command}
@@ -57,3 +57,7 @@ line_leaves element picture b line = leaves_after element picture b (read line)
 abbrev pub lines_leave : Element → List ℕ → Bench → List (List ℕ) → Bench
 lines_leave element picture b [] = b
 lines_leave element picture b (line ∷ lines) = lines_leave element picture (line_leaves element picture b line) lines
+
+-- the answer to line k of some lines, by the bench that the lines before it leave
+abbrev pub answer_at : Element → List ℕ → Bench → List (List ℕ) → ℕ → LineAnswer
+answer_at element picture b lines k = line_answer element picture (lines_leave element picture b (take k lines)) (slice_index_or lines k [])

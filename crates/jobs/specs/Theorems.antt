@@ -1,5 +1,5 @@
 -- What holds of every job, told of the lines of its input and of what is printed for them. Here lines count from 0. Assumes nothing.
-use Rattle.std.specs.Prelude.{◌≡◌, ℕ, ◌+◌, ◌*◌, ◌<◌, ◌≤◌, List, [], ◌∷◌, ◌++◌, drop, length, take, Ok, Err, MatchResult, slice_index_or}
+use Rattle.std.specs.Prelude.{◌≡◌, ℕ, ◌+◌, ◌*◌, ◌<◌, ◌≤◌, List, [], ◌∷◌, ◌++◌, drop, length, Ok, Err, MatchResult, slice_index_or}
 use Rattle.commands.specs.declared.Command.TheVariants.{Begin}
 use Rattle.commands.specs.Lines.{command_text}
 use Rattle.elements.specs.declared.element.Element.{Element}
@@ -9,7 +9,7 @@ use Rattle.morphology.specs.Cells.{cut}
 use Rattle.pictures.specs.declared.Picture.{Picture}
 use Rattle.pictures.specs.Headers.{LawfulSide, header}
 use Rattle.jobs.specs.Answers.{answer_text}
-use Rattle.jobs.specs.Commands.{LineAnswer, line_answer, lines_leave}
+use Rattle.jobs.specs.Commands.{LineAnswer, answer_at}
 use Rattle.jobs.specs.Lines.{lines_of}
 use Rattle.jobs.specs.Runs.{opened_bench, prepared, printed}
 
@@ -28,9 +28,7 @@ OneAnswerALine = (card file input : List ℕ) (element : Element) (p : Picture) 
     let lines = lines_of input in
     let picture = drop p.start file in
     (length (lines_of (printed card file input)) ≡ length lines)
-    × ((k : ℕ) → k < length lines →
-    let bench = lines_leave element picture (opened_bench p.width p.height) (take k lines) in
-    Prints card file input k (line_answer element picture bench (slice_index_or lines k [])))
+    × ((k : ℕ) → k < length lines → Prints card file input k (answer_at element picture (opened_bench p.width p.height) lines k))
 
 -- An answer beside those of the jobs whose picture is cut, one for each height: the same fault is told in all; or as many numbers are
 -- told in all, and each is the sum of those that stand in its place where the picture is cut at 1 to the top.

@@ -1,12 +1,11 @@
 // A job: what each command and each line does.
-ghost use Rattle.std.specs.Prelude.{◌≡◌, map, option_to_list};
+ghost use Rattle.std.specs.Prelude.{◌≡◌, map, option_to_list, Ok};
 ghost use Rattle.std.specs.Result.{result_map_both};
 ghost use Rattle.faults.specs.declared.JobFault.TheVariants as fault_of;
 ghost use Rattle.jobs.specs.Answers.{one_or_none};
-ghost use Rattle.in_use.specs.InUse.{bench_of, open_flat};
-ghost use Rattle.jobs.specs.Commands.{call_of, line_answer, line_leaves, told_on_line};
+ghost use Rattle.in_use.specs.InUse.{bench_of};
+ghost use Rattle.jobs.specs.Commands.{answer_to, leaves_after, line_answer, line_leaves};
 ghost use Rattle.levels.specs.Gray.{gray_height};
-ghost use Rattle.model.specs.Steps.{answer, step};
 
 use bench::load;
 use calls::{area, dilate, erode};
@@ -26,16 +25,12 @@ pub(crate) struct Job<'a, 'b> {
 
 impl Job<'_, '_> {
     // Does a command, and tells the area where that is asked.
-    #[tactic(auto, using(crate::proofs::Operations::operation_refused, in_use::proofs::Kept::stored_own, crate::proofs::Refusals::refused_on_line, crate::proofs::Refusals::refused_area, crate::proofs::Refusals::accepted_on_line))]
+    #[tactic(auto, using(in_use::proofs::Kept::stored_own, crate::proofs::Refusals::refused_on_line, crate::proofs::Refusals::refused_area, crate::proofs::Refusals::accepted_on_line))]
     fn perform(&mut self, command: Command) -> Result<Option<u64>, Fault>
-        ensures answers { result_map_both option_to_list fault_of.Bench result ≡ told_on_line
-            (answer (bench_of gray_height self.old.bench)
-            (call_of self.old.element (map gray_height self.old.picture.now)
-            (open_flat (bench_of gray_height self.old.bench)) command)) }
+        ensures answers { result_map_both option_to_list fault_of.Bench result ≡
+            answer_to self.old.element (map gray_height self.old.picture.now) (bench_of gray_height self.old.bench) (Ok command) }
         ensures steps { bench_of gray_height self.new.bench ≡
-            step (bench_of gray_height self.old.bench)
-            (call_of self.old.element (map gray_height self.old.picture.now)
-            (open_flat (bench_of gray_height self.old.bench)) command) }
+            leaves_after self.old.element (map gray_height self.old.picture.now) (bench_of gray_height self.old.bench) (Ok command) }
         ensures element { self.new.element ≡ self.old.element }
         ensures picture { self.new.picture.now ≡ self.old.picture.now }
     {

@@ -1,16 +1,18 @@
 -- What an element makes of sheets of w × h heights. Assumes nothing.
-use Rattle.std.specs.Prelude.{ℕ, List, ℤ}
+use Rattle.std.specs.Prelude.{ℕ, List}
 use Rattle.elements.specs.declared.element.Element.{Element}
 use Rattle.elements.specs.Elements.{offsets}
 use Rattle.morphology.specs.Erosion.{dilated, eroded}
+use Rattle.bench.specs.Model.{Tally}
 use Rattle.bench.specs.Calls.{Making, OfTwo}
 use Rattle.operators.specs.Closings.{closed_by}
 use Rattle.operators.specs.Openings.{opening}
 use Rattle.operators.specs.Reconstruction.{reconstructed, rounds}
 use Rattle.operators.specs.Skeletons.{skeleton}
 use Rattle.operators.specs.Spectra.{spectrum}
-use Rattle.operators.specs.Tallies.{differed, edge, peak}
+use Rattle.operators.specs.Tallies.{edge, peak}
 use Rattle.operators.specs.Valleys.{valley}
+use Rattle.model.specs.Weights.{difference}
 
 -- Its erosion and dilation, and its closing of a size.
 abbrev pub shrink : Element → ℕ → ℕ → List ℕ → List ℕ
@@ -33,19 +35,15 @@ closing_by e size w h f g = close e w h size f
 abbrev pub reconstruction_by : Element → Making
 reconstruction_by e w h marker upper = reconstructed (swell e w h) marker upper
 
--- What it makes of one sheet as a difference: its edge, its peak, and its valley; and the difference of two sheets, for which it is not
--- asked.
-abbrev pub edge_by : Element → OfTwo (List ℤ)
-edge_by e w h f g = edge (shrink e w h) f
+-- The tallies that it makes of one sheet: its edge, its peak and its valley.
+abbrev pub edge_by : Element → OfTwo Tally
+edge_by e w h f g = difference (edge (shrink e w h) f)
 
-abbrev pub peak_by : Element → OfTwo (List ℤ)
-peak_by e w h f g = peak (shrink e w h) (swell e w h) f
+abbrev pub peak_by : Element → OfTwo Tally
+peak_by e w h f g = difference (peak (shrink e w h) (swell e w h) f)
 
-abbrev pub valley_by : Element → OfTwo (List ℤ)
-valley_by e w h f g = valley (close e w h) f
-
-abbrev pub difference_of_two : OfTwo (List ℤ)
-difference_of_two w h f g = differed f g
+abbrev pub valley_by : Element → OfTwo Tally
+valley_by e w h f g = difference (valley (close e w h) f)
 
 -- The changing rounds of its reconstruction; its spectrum and its skeleton to a depth.
 abbrev pub rounds_by : Element → OfTwo ℕ

@@ -9,11 +9,11 @@ use Rattle.bench.specs.Model.{State, Tally, sheet_of, tally_of}
 use Rattle.bench.specs.Calls.{as_opened, begin_leaves, begin_refusal, end_leaves, end_refusal, load_leaves, load_refusal, make_leaves, make_refusal}
 use Rattle.calls.specs.Made.{by_element}
 use Rattle.calls.specs.Queries.{area_answer, show_sheet_refusal, show_tally_refusal, span_answer}
-use Rattle.model.specs.ByElement.{closing_by, difference_of_two, edge_by, opening_by, peak_by, reconstruction_by, valley_by}
+use Rattle.model.specs.ByElement.{closing_by, edge_by, opening_by, peak_by, reconstruction_by, valley_by}
 use Rattle.model.specs.Calls.{Call, Begin, End, Load, Erode, Dilate, Open, Close, Meet, Join, Regrow, Edge, Peak, Valley, Differ, Add, Scale, Area, Span, Spectrum, Skeleton, ShowSheet, ShowTally, Told, NothingTold, SlipTold, RoundsTold, AreaTold, SpanTold, SpectrumTold, SkeletonTold, SheetTold, TallyTold}
 use Rattle.model.specs.ListCalls.{skeleton_answer, spectrum_answer}
 use Rattle.model.specs.SheetCalls.{of_size_leaves, of_size_refusal, regrow_answer}
-use Rattle.model.specs.TallyCalls.{add_leaves, add_refusal, difference_leaves, difference_refusal, scale_leaves, scale_refusal}
+use Rattle.model.specs.TallyCalls.{add_leaves, add_refusal, difference_leaves, difference_of_two, difference_refusal, scale_leaves, scale_refusal}
 use Rattle.model.specs.Weights.{multiple, sum_of_tallies}
 
 -- A bench is a rack and its slate.

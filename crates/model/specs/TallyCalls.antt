@@ -6,6 +6,7 @@ use Rattle.limits.specs.Faults.{first, unless}
 use Rattle.limits.specs.Sizes.{lawful_factor}
 use Rattle.bench.specs.Model.{Outline, State, Tally, is_place, tally_of}
 use Rattle.bench.specs.Calls.{OfTwo, equal_benches, made_of, stored}
+use Rattle.operators.specs.Tallies.{differed}
 use Rattle.model.specs.Weights.{difference, lawful_weight, multiple, sum_of_tallies}
 
 -- A difference of two sheets, the same or not: the sheet places, then the tally place, then the visit on the rack, then the sources,
@@ -18,10 +19,14 @@ difference_refusal rack slate one other to =
     (first (not (rack.filled one && rack.filled other)) EmptySheet
     (first (not (equal_benches rack slate)) Unequal None))))
 
--- what is left by a call that makes a difference of what stands in two sheet places
-abbrev pub difference_leaves : OfTwo (List ℤ) → State (List ℕ) → State Tally → ℕ → ℕ → ℕ → State Tally
+-- what is left by a call that makes a tally of what stands in two sheet places
+abbrev pub difference_leaves : OfTwo Tally → State (List ℕ) → State Tally → ℕ → ℕ → ℕ → State Tally
 difference_leaves made rack slate one other to =
-    unless (difference_refusal rack.outline slate.outline one other to) (stored slate to (difference (made_of made rack one other))) slate
+    unless (difference_refusal rack.outline slate.outline one other to) (stored slate to (made_of made rack one other)) slate
+
+-- the difference of two sheets
+abbrev pub difference_of_two : OfTwo Tally
+difference_of_two w h f g = difference (differed f g)
 
 -- add, where this is the sum: the places, then the visit on the slate, then the sources, then the weight
 abbrev pub add_refusal : Outline → Tally → ℕ → ℕ → ℕ → Option Fault

@@ -10,7 +10,7 @@ use Rattle.std.proofs.Common.{lit≤}
 use Rattle.limits.specs.declared.fault.Fault.{Fault}
 use Rattle.limits.specs.Faults.{fault_number, refusal_number}
 use Rattle.bench.specs.Calls.{begin_refusal, end_refusal}
-use Rattle.bench.specs.Model.{Outline}
+use Rattle.bench.specs.Model.{Outline, visit_to}
 use Rattle.model.specs.Calls.{Call, Begin, End, Load, Erode, Dilate, Open, Close, Meet, Join, Regrow, Edge, Peak, Valley, Differ, Add, Scale, Area, Span, Spectrum, Skeleton, ShowSheet, ShowTally, Told, NothingTold, SlipTold, RoundsTold, AreaTold, SpanTold, SpectrumTold, SkeletonTold, SheetTold, TallyTold}
 use Rattle.model.specs.TallyCalls.{difference_refusal}
 
@@ -161,7 +161,7 @@ wrong = record {
 
 -- outlines of a rack and a slate of 2 × 1 cells in a visit to a flat, with one place, filled or not
 abbrev in_visit : ℕ → Bool → Outline
-in_visit flat filled = record { w = 2; h = 1; places = 1; visit = Some (record { flat = flat }); filled = λ k. filled }
+in_visit flat filled = record { w = 2; h = 1; places = 1; visit = Some (visit_to flat); filled = λ k. filled }
 
 -- All calls get their answers. Last what no run of one bench meets: a rack and a slate in different visits or of different sides, at a
 -- tally of a sheet, at end and at begin.

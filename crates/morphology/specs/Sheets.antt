@@ -1,6 +1,6 @@
 -- Sheets of heights, read by column and row. Assumes nothing.
 -- A sheet is a list of w × h heights, row by row; columns and rows count from 0.
-use Rattle.std.specs.Prelude.{ℕ, ◌+◌, ◌*◌, ◌/◌, ◌%◌, cond, not, ◌&&◌, List, [], ◌∷◌, map, ℤ, pos, negsuc, fold, None, Option, ◌==◌, nat_lt, slice_index}
+use Rattle.std.specs.Prelude.{ℕ, ◌+◌, ◌*◌, ◌/◌, ◌%◌, cond, not, ◌&&◌, List, map, ℤ, pos, negsuc, fold, None, Option, ◌==◌, nat_lt, slice_index}
 use Rattle.std.specs.List.{list_all, range_with_len}
 use Rattle.limits.specs.declared.fault.Fault.{Fault}
 use Rattle.limits.specs.declared.fault.Fault.TheVariants.{Side, Length}

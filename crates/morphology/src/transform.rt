@@ -15,17 +15,17 @@ use elements::Element;
 use levels::level::Level;
 use limits::Fault;
 
-/// A transformation makes a sheet of two sheets of the same sides, and may tell something of its own. Its meaning is the sheet
-/// that it makes and what it tells, in heights and the same for every level kind. One that reads a single sheet does not
+/// A transformation makes a sheet of two sheets of the same sides, and may report something of its own. Its meaning is the sheet
+/// that it makes and what it reports, in heights and the same for every level kind. One that reads a single sheet does not
 /// look at the other.
 pub trait Transform {
-    /// What it tells beside the sheet that it makes; nothing is `()`.
-    type Told;
+    /// What it reports beside the sheet that it makes; nothing is `()`.
+    type Report;
 
-    // What it makes of two sheets of w × h heights, and what it tells of them.
+    // What it makes of two sheets of w × h heights, and what it reports of them.
     ghost makes: { Self → ℕ → ℕ → List ℕ → List ℕ → List ℕ };
 
-    ghost told_of: { Self → ℕ → ℕ → List ℕ → List ℕ → Self.Told };
+    ghost report_of: { Self → ℕ → ℕ → List ℕ → List ℕ → Self.Report };
 
     /// Writes what it makes of two sheets of w × h levels to the list `to`. The list `spare` is for steps on the way; what it
     /// holds afterwards is free.
@@ -39,10 +39,10 @@ pub trait Transform {
         spare: &mut [L],
         w: usize,
         h: usize,
-    ) -> Result<Self::Told, Fault>
+    ) -> Result<Self::Report, Fault>
         ensures answers { result ≡ tells
             (lists_refusal w h (length one.now ∷ length other.now ∷ length to.old ∷ length spare.old ∷ []))
-            (told_of self.now w h (map L.height one.now) (map L.height other.now)) }
+            (report_of self.now w h (map L.height one.now) (map L.height other.now)) }
         ensures memory { MatchResult result
             (λ _. map L.height to.new ≡ makes self.now w h (map L.height one.now) (map L.height other.now))
             (λ _. (to.new ≡ to.old) × (spare.new ≡ spare.old)) };
@@ -56,11 +56,11 @@ pub struct ByElement<'e> {
 }
 
 impl<'e> Transform for ByElement<'e> {
-    type Told = ();
+    type Report = ();
 
     ghost makes = { λ t w h f g. operated t.op w h (offsets t.element.now) f };
 
-    ghost told_of = { λ t w h f g. tt };
+    ghost report_of = { λ t w h f g. tt };
 
     fn transform<L: Level>(
         &self,
@@ -83,11 +83,11 @@ pub struct CellByCell {
 }
 
 impl Transform for CellByCell {
-    type Told = ();
+    type Report = ();
 
     ghost makes = { λ t w h f g. combined t.which f g };
 
-    ghost told_of = { λ t w h f g. tt };
+    ghost report_of = { λ t w h f g. tt };
 
     fn transform<L: Level>(
         &self,

@@ -47,7 +47,7 @@ impl<L: Level> Sheet<L> {
     }
 
     // The sheet that a call of the library writes.
-    fn written<F: FnOnce(&[L], &mut [L], Sides) -> Result<(), Fault>>(
+    fn made_by<F: FnOnce(&[L], &mut [L], Sides) -> Result<(), Fault>>(
         &self,
         heap: Global,
         write: F,
@@ -65,7 +65,7 @@ impl<L: Level> Sheet<L> {
 
     // The erosion.
     pub(crate) fn eroded(&self, heap: Global, element: &Element) -> io::Result<Sheet<L>> {
-        self.written(
+        self.made_by(
             heap,
             |from: &[L], to: &mut [L], sides: Sides| erode(from, to, sides.w, sides.h, element),
         )
@@ -73,7 +73,7 @@ impl<L: Level> Sheet<L> {
 
     // The dilation.
     fn dilated(&self, heap: Global, element: &Element) -> io::Result<Sheet<L>> {
-        self.written(
+        self.made_by(
             heap,
             |from: &[L], to: &mut [L], sides: Sides| dilate(from, to, sides.w, sides.h, element),
         )

@@ -42,8 +42,8 @@ make_sources o one other to h =
 pub of_size_sources : (o : Outline) (size from to : ℕ) → of_size_refusal o size from to ≡ None → Sources o from from
 of_size_sources o size from to h =
     let places = passed (is_place o.places from && is_place o.places to) _ _ h in
-    let sized = passed (lawful_size size) _ _ places.1 in
-    let visit = passed (is_some o.visit) _ _ sized.1 in
+    let lawful = passed (lawful_size size) _ _ places.1 in
+    let visit = passed (is_some o.visit) _ _ lawful.1 in
     let filled = passed (o.filled from) _ _ visit.1 in
     record { visit = visit.0; one_filled = filled.0; other_filled = filled.0 }
 

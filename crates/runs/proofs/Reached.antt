@@ -3,7 +3,7 @@
 use Rattle.model.specs.Weights.{WithinWeight}
 use Rattle.std.proofs.Common.{Bool, false, cond, eqb, unwrap_or, ◌≡◌, ℕ, ◌*◌, ◌≤◌, true, List, [], ◌∷◌, zero, suc, map, length, is_some, Some, None, Option, sym, refl, ap, arith}
 use Rattle.std.proofs.lemmas.Bool.{false≢true}
-use Rattle.bench.specs.Model.{State, Tally, tally_of}
+use Rattle.bench.specs.Model.{State, Tally, tally_of, visit_to}
 use Rattle.bench.specs.declared.visit.Visit.{Visit}
 use Rattle.bench.specs.Calls.{ended, opened, stored, with_visit}
 use Rattle.laws.specs.Sums.{HeightsAtMost}
@@ -75,8 +75,8 @@ module _ (top : ℕ) (start b : Bench) (r : Reached top start b) where
   begin_reached flat = record {
     rack_sizes = r.rack_sizes;
     slate_sizes = r.slate_sizes;
-    rack_closed = λ closed. closed_open (Some (record { flat = flat })) refl closed;
-    slate_closed = λ closed. closed_open (Some (record { flat = flat })) refl closed;
+    rack_closed = λ closed. closed_open (Some (visit_to flat)) refl closed;
+    slate_closed = λ closed. closed_open (Some (visit_to flat)) refl closed;
     held = record { sized = r.held.sized; topped = r.held.topped };
     tallies = r.tallies;
     rack_filled = r.rack_filled;

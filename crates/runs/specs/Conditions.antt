@@ -60,12 +60,12 @@ tallies_filled (Scale factor from to) = to ∷ []
 tallies_filled call = []
 
 -- the size or the depth of a call, and its factor
-abbrev pub sizes : Call ℕ → List ℕ
-sizes (Open element size from to) = size ∷ []
-sizes (Close element size from to) = size ∷ []
-sizes (Spectrum element depth place len) = depth ∷ []
-sizes (Skeleton element depth place len) = depth ∷ []
-sizes call = []
+abbrev pub sizes_asked : Call ℕ → List ℕ
+sizes_asked (Open element size from to) = size ∷ []
+sizes_asked (Close element size from to) = size ∷ []
+sizes_asked (Spectrum element depth place len) = depth ∷ []
+sizes_asked (Skeleton element depth place len) = depth ∷ []
+sizes_asked call = []
 
 abbrev pub factors : Call ℕ → List ℤ
 factors (Scale factor from to) = factor ∷ []
@@ -130,7 +130,7 @@ applies rack slate call SheetPlace = fails (is_place rack.outline.places) (sheet
 -- a tally place that is named is none of the slate's
 applies rack slate call TallyPlace = fails (is_place slate.outline.places) (tallies_read call ++ tallies_filled call)
 -- the size or the depth is not 1 to 64
-applies rack slate call SizeOrDepth = fails lawful_size (sizes call)
+applies rack slate call SizeOrDepth = fails lawful_size (sizes_asked call)
 -- the list has not as many items as the spectrum or the skeleton
 applies rack slate call ListLength = fails (λ len. len.0 == len.1) (entry_lengths rack.outline call)
 -- the factor is not −100 to 100

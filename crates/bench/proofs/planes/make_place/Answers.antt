@@ -1,4 +1,4 @@
-use Rattle.std.proofs.Common.{◌≡◌, ◌*◌, None, Ok, map, length, take, drop, sym, refl, ap, ◌∙◌, arith}
+use Rattle.std.proofs.Common.{◌≡◌, ◌*◌, Ok, map, length, sym, ap, ◌∙◌, arith}
 use Rattle.std.proofs.lemmas.List.{length-map, length-take, length-drop}
 use Rattle.std.proofs.lemmas.Result.{MatchResult-at_ok}
 use Rattle.limits.specs.Faults.{tells}
@@ -14,7 +14,7 @@ returns g c =
     let cells = sides.w * sides.h in
     let sheets = c.args.sheets.now in
     let makes = g.T.Transform.makes c.args.transform.now in
-    let tells_of = g.T.Transform.told_of c.args.transform.now in
+    let reports = g.T.Transform.report_of c.args.transform.now in
     let count = c.cells-cells.ensures in
     let planes = c.requires.planes in
     let one_is : c.part.result.now ≡ cells_from c.args.one cells sheets = rw count at c.part.ensures in
@@ -26,14 +26,14 @@ returns g c =
     let accepted = lists_accepted sides.w sides.h _ _ _ _ sides.some_column sides.wide sides.some_row sides.high one_long other_long plane_long spare_long in
     let one = ap (map height) one_is ∙ heights_of_cells height c.args.one cells sheets in
     let other = ap (map height) other_is ∙ heights_of_cells height c.args.other cells sheets in
-    let answer = c.transform.ensures.answers ∙ ap (λ o. tells o (tells_of sides.w sides.h (map height c.part.result.now) (map height c.part-2.result.now))) accepted in
+    let answer = c.transform.ensures.answers ∙ ap (λ o. tells o (reports sides.w sides.h (map height c.part.result.now) (map height c.part-2.result.now))) accepted in
     let made : map height c.transform.new.to ≡ made_from makes sides.w sides.h c.args.one c.args.other (map height sheets) =
     MatchResult-at_ok (λ _. map height c.transform.new.to ≡ makes sides.w sides.h (map height c.part.result.now) (map height c.part-2.result.now)) _ _
     answer c.transform.ensures.memory
     ∙ (λ i. makes sides.w sides.h (one i) (other i)) in
-    let same : Ok c.unwrap-told.result ≡ Ok (tells_of sides.w sides.h (map height c.part.result.now) (map height c.part-2.result.now)) = sym c.unwrap-told.ensures ∙ answer in
+    let same : Ok c.unwrap-report.result ≡ Ok (reports sides.w sides.h (map height c.part.result.now) (map height c.part-2.result.now)) = sym c.unwrap-report.ensures ∙ answer in
     record {
       made = ap (map height) c.store.ensures ∙ map-overwritten height c.args.to _ sheets ∙ ap (λ new. overwritten c.args.to new (map height sheets)) made;
-      told = (let e : c.unwrap-told.result ≡ tells_of sides.w sides.h (map height c.part.result.now) (map height c.part-2.result.now) = cc in e) ∙ (λ i. tells_of sides.w sides.h (one i) (other i));
+      reports = (let e : c.unwrap-report.result ≡ reports sides.w sides.h (map height c.part.result.now) (map height c.part-2.result.now) = cc in e) ∙ (λ i. reports sides.w sides.h (one i) (other i));
       length = sym (ap length made) ∙ length-map _ _ ∙ c.transform.auto.to ∙ plane_long;
     }

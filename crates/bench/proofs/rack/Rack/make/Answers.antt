@@ -1,9 +1,8 @@
 use Rattle.std.proofs.Common.{◌≡◌, ℕ, ◌≤◌, ◌+◌, ◌-◌, ◌*◌, ◌++◌, map, length, take, Ok, Err, refl, ap, sym, ◌∙◌, arith}
 use Rattle.std.proofs.lemmas.List.{length-append, length-map, length-take-le, map-append, take-map, take_at}
 use Rattle.std.proofs.lemmas.Result.{err_from_is_err_and}
-use Rattle.limits.specs.Faults.{tells}
-use Rattle.bench.specs.Calls.{made_from, made_of, make_refusal, make_writes, stored}
-use Rattle.bench.specs.Model.{cells_of, kept, place_start, places_of, rack_outline, rack_state, sheet_held, state_of}
+use Rattle.bench.specs.Calls.{made_from, made_of, stored}
+use Rattle.bench.specs.Model.{overwritten, place_start, places_of, rack_outline, rack_state, sheet_held, state_of}
 use Rattle.bench.proofs.Refusals.{refused_leaves, refused_tells, accepted_leaves, accepted_tells, make_accepted}
 use Rattle.bench.proofs.Places.{made_from_places, place_in_memory, places_fit, some_cells, some_places, state_of_places}
 use Rattle.bench.proofs.Stored.{stored_state}
@@ -27,8 +26,8 @@ invariant_of-sides g c =
     let some = some_cells rack.marks c.args.to accepted.to_place in
     record { some_column = some.0; some_row = some.1; wide = rack.marks.wide; high = rack.marks.high }
 
-pub make_place-told-requires : goal.make_place-told-requires
-make_place-told-requires g c =
+pub make_place-report-requires : goal.make_place-report-requires
+make_place-report-requires g c =
     let rack = c.args.self.now in
     let marks = rack.marks in
     let accepted = make_accepted (rack_outline rack) c.args.one c.args.other c.args.to c.in_ok-refuse_make.ensures in
@@ -57,29 +56,29 @@ returns g c =
     let heights = map height rack.memory.now in
     let fits = (places_fit marks.places cells _ (rack.sized (some_places marks c.args.to accepted.to_place))).0 in
     let makes = g.T.Transform.makes c.args.transform.now in
-    let tells_of = g.T.Transform.told_of c.args.transform.now in
-    let sheets = c.make_place-told.new.sheets in
-    let planes = c.make_place-told.new.planes in
+    let reports = g.T.Transform.report_of c.args.transform.now in
+    let sheets = c.make_place-report.new.sheets in
+    let planes = c.make_place-report.new.planes in
     let front : map height c.split_at_mut-sheets.result.0.now ≡ places_of marks heights =
     ap (map height) (c.split_at_mut-sheets.ensures.front ∙ ap (λ n. take (marks.places * n) rack.memory.now) count)
     ∙ sym (take-map height (marks.places * cells) rack.memory.now) in
     let starts = λ (n : ℕ). made_from makes marks.w marks.h ((c.args.one - 1) * n) ((c.args.other - 1) * n) in
     let made = starts cells (places_of marks heights) in
-    let written : map height sheets ≡ make_writes makes marks c.args.one c.args.other c.args.to (places_of marks heights) =
-    (rw count at c.make_place-told.ensures.made) ∙ ap (make_writes makes marks c.args.one c.args.other c.args.to) front in
-    let long : length made ≡ cells = ap (λ hs. length (starts cells hs)) (sym front) ∙ (rw count at c.make_place-told.ensures.length) in
+    let written : map height sheets ≡ overwritten (place_start cells c.args.to) made (places_of marks heights) =
+    (rw count at c.make_place-report.ensures.made) ∙ ap (λ hs. overwritten (place_start cells c.args.to) (starts cells hs) hs) front in
+    let long : length made ≡ cells = ap (λ hs. length (starts cells hs)) (sym front) ∙ (rw count at c.make_place-report.ensures.length) in
     let whole : length (map height sheets) ≡ marks.places * cells =
-    length-map sheets height ∙ c.make_place-told.auto.sheets ∙ c.split_at_mut-sheets.ensures.front_len ∙ ap (λ n. marks.places * n) count in
+    length-map sheets height ∙ c.make_place-report.auto.sheets ∙ c.split_at_mut-sheets.ensures.front_len ∙ ap (λ n. marks.places * n) count in
     let taken : length (places_of marks heights) ≡ marks.places * cells = length-take-le _ heights (rw length-map fits) in
     let room : marks.places * cells ≤ length (places_of marks heights) = omega (arith, taken) in
-    let told : c.make_place-told.result ≡ made_of tells_of (rack_state height rack) c.args.one c.args.other =
-    (rw count at c.make_place-told.ensures.told)
-    ∙ ap (made_from tells_of marks.w marks.h (place_start cells c.args.one) (place_start cells c.args.other)) front
-    ∙ made_from_places tells_of marks heights c.args.one c.args.other c.args.to accepted in
+    let reported : c.make_place-report.result ≡ made_of reports (rack_state height rack) c.args.one c.args.other =
+    (rw count at c.make_place-report.ensures.reports)
+    ∙ ap (made_from reports marks.w marks.h (place_start cells c.args.one) (place_start cells c.args.other)) front
+    ∙ made_from_places reports marks heights c.args.one c.args.other c.args.to accepted in
     let in_places : places_of marks (map height (sheets ++ planes)) ≡ map height sheets =
     ap (take (marks.places * cells)) (map-append height sheets planes) ∙ take_at (map height sheets) (map height planes) (marks.places * cells) whole in
     record {
-      answers = ap Ok told ∙ accepted_tells _ _ passed;
+      answers = ap Ok reported ∙ accepted_tells _ _ passed;
       steps =
           sym (state_of_places sheet_held c.fill.new.self (map height (sheets ++ planes)))
           ∙ ap (state_of sheet_held c.fill.new.self) (
@@ -88,6 +87,6 @@ returns g c =
           ∙ stored_state sheet_held marks c.args.to tt made (places_of marks heights) accepted.to_place long room c.fill.new.self filled.sizes.w filled.sizes.h filled.sizes.places filled.visit filled.filled
           ∙ (λ i. stored (state_of_places sheet_held marks heights i) c.args.to (made_from_places makes marks heights c.args.one c.args.other c.args.to accepted i))
           ∙ accepted_leaves _ _ _ passed;
-      memory = in_places ∙ written;
-      lent = record { reference = refl; long = length-append sheets planes ∙ (λ i. c.make_place-told.auto.sheets i + c.make_place-told.auto.planes i) ∙ sym (length-append c.split_at_mut-sheets.result.0.now c.split_at_mut-sheets.result.1.now) ∙ sym (ap length c.split_at_mut-sheets.ensures.value) };
+      memory = in_places ∙ written ∙ ap (λ new. overwritten (place_start cells c.args.to) new (places_of marks heights)) (made_from_places makes marks heights c.args.one c.args.other c.args.to accepted);
+      lent = record { reference = refl; long = length-append sheets planes ∙ (λ i. c.make_place-report.auto.sheets i + c.make_place-report.auto.planes i) ∙ sym (length-append c.split_at_mut-sheets.result.0.now c.split_at_mut-sheets.result.1.now) ∙ sym (ap length c.split_at_mut-sheets.ensures.value) };
     }

@@ -14,7 +14,7 @@ kept_own : (slip : Option Slip) (was is slate : Outline) → shared is ≡ share
 kept_own slip was is slate same own = record {
   on_rack = ap (λ s. s.0) same ∙ own.on_rack;
   on_slate = own.on_slate;
-  same = λ some. same ∙ own.same some;
+  same_sides = λ some. (ap (λ s. s.1) same ∙ (own.same_sides some).0, ap (λ s. s.2) same ∙ (own.same_sides some).1);
 }
 
 -- as where a call fills a place of it, or is refused

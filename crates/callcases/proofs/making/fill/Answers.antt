@@ -1,6 +1,9 @@
 use Rattle.in_use.proofs.Kept.{made_own, stored_own}
 use Rattle.callcases.proofs.making.fill.Goals as goal
 
+pub invariant_of-bench-in-text-len2 : goal.invariant_of-bench-in-text-len2
+invariant_of-bench-in-text-len2 g c = record { own_slip = stored_own _ _ _ _ _ _ _ c.load-in-text-len2.ensures.steps c.args.bench.now.own_slip }
+
 pub invariant_of-bench-in-text-len2-2 : goal.invariant_of-bench-in-text-len2-2
 invariant_of-bench-in-text-len2-2 g c = record { own_slip = stored_own _ _ _ _ _ _ _ c.load-in-text-len2-2.ensures.steps c.args.bench.now.own_slip }
 

@@ -1,7 +1,7 @@
 -- The limits on sides, places, memory, sizes, flats and factors. Assumes nothing.
 use Rattle.std.specs.Prelude.{ℕ, ◌+◌, ◌*◌, Bool, not, ◌&&◌, None, Option, ℤ, ◌==◌, nat_le, unsigned_abs}
 use Rattle.limits.specs.declared.fault.Fault.{Fault}
-use Rattle.limits.specs.declared.fault.Fault.TheVariants.{Side, Places, Memory}
+use Rattle.limits.specs.declared.fault.Fault.TheVariants.{Side, Places, Memory, SizeOrDepth, FactorOrHeight}
 use Rattle.limits.specs.Faults.{first}
 
 -- a side is 1 to 1,024
@@ -27,3 +27,10 @@ sizes_refusal working w h places len =
     first (not (lawful_side w && lawful_side h)) Side
     (first (not (nat_le 1 places && nat_le places 12)) Places
     (first (not (len == (places + working) * (w * h))) Memory None))
+
+-- a size or a depth, and a factor
+abbrev pub size_refusal : ℕ → Option Fault
+size_refusal k = first (not (lawful_size k)) SizeOrDepth None
+
+abbrev pub factor_refusal : ℤ → Option Fault
+factor_refusal factor = first (not (lawful_factor factor)) FactorOrHeight None

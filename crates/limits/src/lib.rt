@@ -7,4 +7,4 @@ mod sizes;
 
 pub use fault::Fault;
 pub use sides::Sides;
-pub use sizes::{check_rack, check_sizes, check_slate};
+pub use sizes::{check_factor, check_rack, check_size, check_sizes, check_slate};

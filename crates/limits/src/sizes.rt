@@ -1,7 +1,7 @@
-// The limits on sides and places, and the memory that they ask for.
+// The limits on sides and places and the memory that they ask for, on sizes and on factors.
 ghost use Rattle.std.specs.Prelude.{◌≡◌, ◌+◌, ◌*◌, OnOk};
 ghost use Rattle.limits.specs.Faults.{told};
-ghost use Rattle.limits.specs.Sizes.{sizes_refusal};
+ghost use Rattle.limits.specs.Sizes.{factor_refusal, size_refusal, sizes_refusal};
 
 use crate::fault::Fault;
 use crate::sides::Sides;
@@ -39,4 +39,26 @@ pub fn check_slate(w: usize, h: usize, places: usize, len: usize) -> Result<(), 
     ensures { result ≡ told (sizes_refusal 0 w h places len) }
 {
     check_sizes(0, w, h, places, len)
+}
+
+/// Whether a number is the size of an opening or a closing, or a depth.
+/// Refuses one that is not 1 to 64 (7).
+pub fn check_size(size: usize) -> Result<(), Fault>
+    ensures { result ≡ told (size_refusal size) }
+{
+    if !(1..=64).contains(&size) {
+        return Err(Fault::SizeOrDepth);
+    }
+    Ok(())
+}
+
+/// Whether a number is the factor of a multiple.
+/// Refuses one that is not −100 to 100 (9).
+pub fn check_factor(factor: i32) -> Result<(), Fault>
+    ensures { result ≡ told (factor_refusal factor) }
+{
+    if factor.unsigned_abs() > 100 {
+        return Err(Fault::FactorOrHeight);
+    }
+    Ok(())
 }

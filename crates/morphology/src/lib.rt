@@ -3,6 +3,7 @@
 
 mod erosion;
 mod extremum;
+mod map;
 mod operation;
 mod passes;
 mod runs;
@@ -12,5 +13,9 @@ mod transform;
 
 pub use erosion::{dilate, erode, operate};
 pub use extremum::Extremum;
+pub use map::SheetMap;
 pub use operation::Operation;
+pub use passes::margins;
+pub use runs::combine;
+pub use sheets::check_sheets;
 pub use transform::{ByElement, CellByCell, Transform};

@@ -4,12 +4,12 @@ ghost use Rattle.morphology.specs.Passes.{extreme, in_row, neighbour};
 ghost use Rattle.morphology.specs.Sheets.{at_place};
 
 use crate::extremum::Extremum;
-use crate::runs::{combine, combine_outside};
+use crate::runs::{combine_outside, combine_run};
 use levels::level::Level;
 use limits::Sides;
 
-// How many places at the start and at the end of a side have no place c − 3 places on.
-fn margins(side: usize, c: usize) -> (usize, usize)
+/// How many places at the start and at the end of a side have no place c − 3 places on.
+pub fn margins(side: usize, c: usize) -> (usize, usize)
     ensures start { result.0 ≡ min (3 - c) side }
     ensures end { result.1 ≡ min (c - 3) side }
 {
@@ -28,7 +28,7 @@ fn combine_row<L: Level>(which: Extremum, others: &[L], cells: &mut [L], c: usiz
     let w = cells.len();
     let (left, right) = margins(w, c);
     combine_outside(which, &mut cells[..left]);
-    combine(which, &others[right..w - left], &mut cells[left..w - right]);
+    combine_run(which, &others[right..w - left], &mut cells[left..w - right]);
     combine_outside(which, &mut cells[w - right..]);
 }
 

@@ -9,7 +9,7 @@ ghost use Rattle.morphology.specs.Sheets.{lists_refusal};
 use crate::erosion::operate;
 use crate::extremum::Extremum;
 use crate::operation::Operation;
-use crate::runs::combine;
+use crate::runs::combine_run;
 use crate::sheets::check_sheets;
 use elements::Element;
 use levels::level::Level;
@@ -100,7 +100,7 @@ impl Transform for CellByCell {
     ) -> Result<(), Fault> {
         check_sheets(w, h, &[one.len(), other.len(), to.len(), spare.len()])?;
         to.copy_from_slice(one);
-        combine(self.which, other, to);
+        combine_run(self.which, other, to);
         Ok(())
     }
 }

@@ -20,11 +20,11 @@ returns g c =
     let same : w - left - right ≡ w - right - left = omega arith in
     let n = w - right - left in
     let first = c.combine_outside.new.cells in
-    let second = c.combine.new.cells in
+    let second = c.combine_run.new.cells in
     let first_long : length first ≡ left = c.combine_outside.auto.cells ∙ length-take-le left cells start in
     let one = rewritten 0 left cells first in
     let one_long : length one ≡ w = length-rewritten 0 left cells first (rw zero-add start) first_long in
-    let second_long : length second ≡ n = c.combine.auto.cells ∙ length-take-le n (drop left one) (rw (length-drop, one_long) (omega arith)) in
+    let second_long : length second ≡ n = c.combine_run.auto.cells ∙ length-take-le n (drop left one) (rw (length-drop, one_long) (omega arith)) in
     let two = rewritten left n one second in
     let two_long : length two ≡ w = length-rewritten left n one second (rw one_long (omega (arith, whole))) second_long ∙ one_long in
     let p =
@@ -33,7 +33,7 @@ returns g c =
     let q =
     passed_combined height which v (map height cells) left n (w - right) one second whole (rw one_long (omega arith)) second_long p
     (map height (take (w - left - right) (drop right c.args.others.now)))
-    (length-map _ _ ∙ length-take-le (w - left - right) (drop right c.args.others.now) (rw (length-drop, c.requires) (omega arith)) ∙ same) (λ m h. rw heights_of_part (row_read w c.args.c f left right (w - left - right) m c.margins-left.ensures.start c.margins-left.ensures.end refl (rw same h))) c.combine.ensures in
+    (length-map _ _ ∙ length-take-le (w - left - right) (drop right c.args.others.now) (rw (length-drop, c.requires) (omega arith)) ∙ same) (λ m h. rw heights_of_part (row_read w c.args.c f left right (w - left - right) m c.margins-left.ensures.start c.margins-left.ensures.end refl (rw same h))) c.combine_run.ensures in
     let third = c.combine_outside-2.new.cells in
     let rest = length two - (w - right) in
     let end : w - right + rest ≡ w = rw two_long (omega arith) in

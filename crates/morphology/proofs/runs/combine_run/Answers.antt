@@ -2,7 +2,7 @@ use Rattle.std.proofs.Common.{map, sym, ◌∙◌, arith}
 use Rattle.std.proofs.lemmas.List.{length-map}
 use Rattle.morphology.proofs.Combining.{combined_more}
 use Rattle.morphology.proofs.Passing.{height_read}
-use Rattle.morphology.proofs.runs.combine.Goals as goal
+use Rattle.morphology.proofs.runs.combine_run.Goals as goal
 
 pub loop-k-preserved : goal.loop-k-preserved
 loop-k-preserved g c =

@@ -1,7 +1,7 @@
 use Rattle.std.proofs.Common.{◌≡◌, map}
 use Rattle.morphology.specs.Passes.{extreme}
 use Rattle.morphology.proofs.Combining.{combined_below}
-use Rattle.morphology.proofs.runs.combine.Given as goal
+use Rattle.morphology.proofs.runs.combine_run.Given as goal
 
 abbrev pub invariant-loop-k : goal.invariant-loop-k
 invariant-loop-k g l =

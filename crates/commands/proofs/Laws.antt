@@ -9,9 +9,9 @@ use Rattle.text.specs.Misfits.{FirstMisfit}
 use Rattle.text.proofs.Forms.{Clear, reads_back, reads_what_was_written, refuses_at_first_misfit}
 use Rattle.text.proofs.Misfits.{misfit_at_once, misfit_after}
 use Rattle.commands.specs.declared.Command.{Command}
-use Rattle.commands.specs.declared.Command.TheVariants.{Begin, Load, Erode, Dilate, Area, End}
+use Rattle.commands.specs.declared.Command.TheVariants.{Begin, Load, Erode, Dilate, Open, Close, Area, End}
 use Rattle.commands.specs.Lines.{letter, numbers, spaced, command_text, AllInRange, InRange, Lawful}
-use Rattle.commands.specs.Reading.{arguments, CommandKind, one, two, command_kind, made, made_by, command_or_misfit, by_column, read, ReadsBackLines, ReadsOnlyLines, RefusesLinesAtMisfit}
+use Rattle.commands.specs.Reading.{arguments, CommandKind, one, two, three, command_kind, made, made_by, command_or_misfit, by_column, read, ReadsBackLines, ReadsOnlyLines, RefusesLinesAtMisfit}
 
 clear : (count : ℕ) → Clear (arguments count)
 clear zero = tt
@@ -62,6 +62,16 @@ makes_two l make same_letter same_numbers = record { same_letter = λ ns. same_l
     pair (m ∷ n ∷ []) long = same_numbers m n
     pair (m ∷ n ∷ k ∷ ns) long = absurd (omega arith)
 
+makes_three : (l : ℕ) (make : ℕ → ℕ → ℕ → Command) → ((k m n : ℕ) → letter (make k m n) ≡ l) → ((k m n : ℕ) → numbers (make k m n) ≡ k ∷ m ∷ n ∷ []) → Makes l (three make)
+makes_three l make same_letter same_numbers = record { same_letter = λ ns. same_letter (get_or ns 0 0) (get_or ns 1 0) (get_or ns 2 0); same_numbers = triple }
+  where
+    triple : (ns : List ℕ) → length ns ≡ 3 → numbers (make (get_or ns 0 0) (get_or ns 1 0) (get_or ns 2 0)) ≡ ns
+    triple [] long = absurd (omega arith)
+    triple (k ∷ []) long = absurd (omega arith)
+    triple (k ∷ m ∷ []) long = absurd (omega arith)
+    triple (k ∷ m ∷ n ∷ []) long = same_numbers k m n
+    triple (k ∷ m ∷ n ∷ i ∷ ns) long = absurd (omega arith)
+
 Known : ℕ → Option CommandKind → Type 0
 Known l None = Unit {0}
 Known l (Some k) = Makes l k
@@ -74,9 +84,11 @@ known l =
     (λ _. cond_both (eqb l 76) _ _ (Known l) (λ e. makes_one l Load (λ _. sym (eqb-true l 76 e)) (λ _. refl))
     (λ _. cond_both (eqb l 69) _ _ (Known l) (λ e. makes_two l Erode (λ _ _. sym (eqb-true l 69 e)) (λ _ _. refl))
     (λ _. cond_both (eqb l 68) _ _ (Known l) (λ e. makes_two l Dilate (λ _ _. sym (eqb-true l 68 e)) (λ _ _. refl))
+    (λ _. cond_both (eqb l 79) _ _ (Known l) (λ e. makes_three l Open (λ _ _ _. sym (eqb-true l 79 e)) (λ _ _ _. refl))
+    (λ _. cond_both (eqb l 67) _ _ (Known l) (λ e. makes_three l Close (λ _ _ _. sym (eqb-true l 67 e)) (λ _ _ _. refl))
     (λ _. cond_both (eqb l 65) _ _ (Known l) (λ e. makes_one l Area (λ _. sym (eqb-true l 65 e)) (λ _. refl))
     (λ _. cond_both (eqb l 88) _ _ (Known l) (λ e. record { same_letter = λ _. sym (eqb-true l 88 e); same_numbers = λ ns long. sym (nil_from_length ns long) })
-    (λ _. tt))))))
+    (λ _. tt))))))))
 
 makes : (l : ℕ) (k : CommandKind) → command_kind l ≡ Some k → Makes l k
 unfolding Known
@@ -93,6 +105,8 @@ kind_of (Begin flat) = (one Begin, record { is = refl; count = refl; made_of = r
 kind_of (Load place) = (one Load, record { is = refl; count = refl; made_of = refl })
 kind_of (Erode from to) = (two Erode, record { is = refl; count = refl; made_of = refl })
 kind_of (Dilate from to) = (two Dilate, record { is = refl; count = refl; made_of = refl })
+kind_of (Open size from to) = (three Open, record { is = refl; count = refl; made_of = refl })
+kind_of (Close size from to) = (three Close, record { is = refl; count = refl; made_of = refl })
 kind_of (Area place) = (one Area, record { is = refl; count = refl; made_of = refl })
 kind_of End = (record { count = 0; make = λ _. End }, record { is = refl; count = refl; made_of = refl })
 

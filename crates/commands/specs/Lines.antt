@@ -1,14 +1,16 @@
 -- The line of a command: a letter, and each number after one blank.
 use Rattle.std.specs.Prelude.{◌≡◌, ℕ, ◌≤◌, List, [], ◌∷◌, ◌++◌, decimal}
 use Rattle.commands.specs.declared.Command.{Command}
-use Rattle.commands.specs.declared.Command.TheVariants.{Begin, Load, Erode, Dilate, Area, End}
+use Rattle.commands.specs.declared.Command.TheVariants.{Begin, Load, Erode, Dilate, Open, Close, Area, End}
 
--- the letter of a command: V, L, E, D, A or X
+-- the letter of a command: V, L, E, D, O, C, A or X
 abbrev pub letter : Command → ℕ
 letter (Begin flat) = 86
 letter (Load place) = 76
 letter (Erode from to) = 69
 letter (Dilate from to) = 68
+letter (Open size from to) = 79
+letter (Close size from to) = 67
 letter (Area place) = 65
 letter End = 88
 
@@ -18,6 +20,8 @@ numbers (Begin flat) = flat ∷ []
 numbers (Load place) = place ∷ []
 numbers (Erode from to) = from ∷ to ∷ []
 numbers (Dilate from to) = from ∷ to ∷ []
+numbers (Open size from to) = size ∷ from ∷ to ∷ []
+numbers (Close size from to) = size ∷ from ∷ to ∷ []
 numbers (Area place) = place ∷ []
 numbers End = []
 

@@ -5,7 +5,7 @@ use Rattle.text.specs.Forms.{Form, nothing, fixed, number, NumbersRead, scan}
 use Rattle.text.specs.Misfits.{FirstMisfit}
 use Rattle.text.specs.Pieces.{refused_at}
 use Rattle.commands.specs.declared.Command.{Command}
-use Rattle.commands.specs.declared.Command.TheVariants.{Begin, Load, Erode, Dilate, Area, End}
+use Rattle.commands.specs.declared.Command.TheVariants.{Begin, Load, Erode, Dilate, Open, Close, Area, End}
 use Rattle.commands.specs.declared.LineFault.{LineFault}
 use Rattle.commands.specs.Lines.{command_text, InRange, Lawful}
 
@@ -33,6 +33,10 @@ one make = record { count = 1; make = λ ns. make (slice_index ns 0) }
 abbrev pub two : (ℕ → ℕ → Command) → CommandKind
 two make = record { count = 2; make = λ ns. make (slice_index ns 0) (slice_index ns 1) }
 
+-- a kind of command with three numbers
+abbrev pub three : (ℕ → ℕ → ℕ → Command) → CommandKind
+three make = record { count = 3; make = λ ns. make (slice_index ns 0) (slice_index ns 1) (slice_index ns 2) }
+
 -- the kind that a letter stands for
 abbrev pub command_kind : ℕ → Option CommandKind
 command_kind l =
@@ -40,9 +44,11 @@ command_kind l =
     (cond (l == 76) (Some (one Load))
     (cond (l == 69) (Some (two Erode))
     (cond (l == 68) (Some (two Dilate))
+    (cond (l == 79) (Some (three Open))
+    (cond (l == 67) (Some (three Close))
     (cond (l == 65) (Some (one Area))
     (cond (l == 88) (Some (record { count = 0; make = λ _. End }))
-    None)))))
+    None)))))))
 
 -- the command of what was read after its letter
 abbrev pub made : CommandKind → Result NumbersRead Misfit → Result Command Misfit

@@ -17,6 +17,10 @@ pub enum Command {
     Erode { from: u16, to: u16 },
     /// `D from to`: dilates.
     Dilate { from: u16, to: u16 },
+    /// `O size from to`: opens.
+    Open { size: u16, from: u16, to: u16 },
+    /// `C size from to`: closes.
+    Close { size: u16, from: u16, to: u16 },
     /// `A place`: tells an area.
     Area { place: u16 },
     /// `X`: ends the visit.
@@ -76,6 +80,14 @@ fn command_on(line: &[u8]) -> Result<Command, Misfit>
         'D' => {
             let [from, to] = numbers::<2>(line)?;
             Ok(Command::Dilate { from, to })
+        }
+        'O' => {
+            let [size, from, to] = numbers::<3>(line)?;
+            Ok(Command::Open { size, from, to })
+        }
+        'C' => {
+            let [size, from, to] = numbers::<3>(line)?;
+            Ok(Command::Close { size, from, to })
         }
         'A' => {
             let [place] = numbers::<1>(line)?;

@@ -3,17 +3,33 @@ use commands::{Command, read_line};
 use std::test::Fail;
 
 // Lines of commands, with the command.
-const ACCEPTED: [(&str, Command); 6] = [
+const ACCEPTED: [(&str, Command); 8] = [
     ("V 7", Command::Begin { flat: 7 }),
     ("L 0", Command::Load { place: 0 }),
     ("E 1 2", Command::Erode { from: 1, to: 2 }),
     ("D 10 9999", Command::Dilate { from: 10, to: 9999 }),
+    (
+        "O 64 1 2",
+        Command::Open {
+            size: 64,
+            from: 1,
+            to: 2,
+        },
+    ),
+    (
+        "C 0 3 9999",
+        Command::Close {
+            size: 0,
+            from: 3,
+            to: 9999,
+        },
+    ),
     ("A 9999", Command::Area { place: 9999 }),
     ("X", Command::End),
 ];
 
 // Lines that are refused, with the column.
-const REFUSED: [(&str, usize); 18] = [
+const REFUSED: [(&str, usize); 20] = [
     ("", 1),
     ("V", 2),
     ("V ", 3),
@@ -30,7 +46,9 @@ const REFUSED: [(&str, usize); 18] = [
     ("D 10000 2", 7),
     ("Q 1", 1),
     ("v 1", 1),
-    ("O 1", 1),
+    ("O 1 2", 6),
+    ("C 1 2 3 4", 8),
+    ("o 1 1 2", 1),
     ("X 1", 2),
 ];
 

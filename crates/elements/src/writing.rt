@@ -51,7 +51,7 @@ pub fn write_card(element: &Element, card: &mut [u8]) -> Result<(), CardFault>
         return Err(CardFault::Length);
     }
     card[0] = size;
-    // Counted by hand: tried with the numbers zipped to the places that are held, and the proof did not close.
+    // Counted by hand: each record names the one that was written before it.
     let mut number = size;
     let mut next = 0;
     for index in (0..49).rev() {

@@ -1,5 +1,5 @@
--- Sheets cell by cell: what two make together, and a cut, at each place; the order of sheets; and the area. Assumes nothing.
-use Rattle.std.proofs.Common.{◌≡◌, ℕ, zero, suc, ◌+◌, ◌≤◌, ◌<◌, max, min, List, [], ◌∷◌, length, get_or, sym, refl, ap, arith}
+-- Sheets cell by cell: the cut of what two make together; the order of sheets; and the area. Assumes nothing.
+use Rattle.std.proofs.Common.{◌≡◌, ℕ, zero, suc, ◌+◌, ◌≤◌, max, min, List, [], ◌∷◌, length, get_or, sym, refl, arith}
 use Rattle.std.proofs.lemmas.Bool.Decides.{nat_tests}
 use Rattle.std.proofs.lemmas.Grind.{same_number_lists}
 use Rattle.std.proofs.lemmas.List.Sums.{sum_by-cons}
@@ -8,31 +8,6 @@ use Rattle.morphology.specs.Sheets.{area}
 use Rattle.laws.specs.Maps.{Below}
 use Rattle.laws.specs.Sums.{HeightsAtMost}
 use Rattle.laws.proofs.Cuts.{cut_height, get_or-cut}
-
--- two lists of one length taken together: as long, and at each place what the operation makes of the two cells there
-pub length-cell_by_cell : {X Y : Type 0} (op : X → X → Y) (f g : List X) → length f ≡ length g → length (cell_by_cell op f g) ≡ length f
-length-cell_by_cell op [] g same = refl
-length-cell_by_cell op (x ∷ f) [] same = absurd (omega arith)
-length-cell_by_cell op (x ∷ f) (y ∷ g) same = ap suc (length-cell_by_cell op f g (omega arith))
-
-pub get_or-cell_by_cell : {X Y : Type 0} (op : X → X → Y) (f g : List X) (p : ℕ) (d : X) (e : Y) → length f ≡ length g → op d d ≡ e → get_or (cell_by_cell op f g) p e ≡ op (get_or f p d) (get_or g p d)
-get_or-cell_by_cell op [] [] p d e same past = sym past
-get_or-cell_by_cell op [] (y ∷ g) p d e same past = absurd (omega arith)
-get_or-cell_by_cell op (x ∷ f) [] p d e same past = absurd (omega arith)
-get_or-cell_by_cell op (x ∷ f) (y ∷ g) zero d e same past = refl
-get_or-cell_by_cell op (x ∷ f) (y ∷ g) (suc p) d e same past = get_or-cell_by_cell op f g p d e (omega arith) past
-
--- two lists of any lengths taken together: as long as the shorter
-pub length-shorter : {X Y : Type 0} (op : X → X → Y) (f g : List X) → length (cell_by_cell op f g) ≡ min (length f) (length g)
-length-shorter op [] g = omega arith
-length-shorter op (x ∷ f) [] = omega arith
-length-shorter op (x ∷ f) (y ∷ g) = omega (arith, length-shorter op f g)
-
-pub get_or-shorter : {X Y : Type 0} (op : X → X → Y) (f g : List X) (p : ℕ) (d : X) (e : Y) → p < min (length f) (length g) → get_or (cell_by_cell op f g) p e ≡ op (get_or f p d) (get_or g p d)
-get_or-shorter op [] g p d e within = absurd (omega arith)
-get_or-shorter op (x ∷ f) [] p d e within = absurd (omega arith)
-get_or-shorter op (x ∷ f) (y ∷ g) zero d e within = refl
-get_or-shorter op (x ∷ f) (y ∷ g) (suc p) d e within = get_or-shorter op f g p d e (omega arith)
 
 -- the cut of two sheets taken together is their cuts taken together, where that holds of two heights
 pub cut-cell_by_cell : (op : ℕ → ℕ → ℕ) (a : ℕ) → ((x y : ℕ) → cut_height a (op x y) ≡ op (cut_height a x) (cut_height a y)) → (f g : List ℕ) → cut a (cell_by_cell op f g) ≡ cell_by_cell op (cut a f) (cut a g)

@@ -9,7 +9,8 @@ use Rattle.laws.specs.Maps.{Below, FlatOperator}
 use Rattle.laws.specs.Sums.{HeightsAtMost, greatest_to}
 use Rattle.operators.specs.Reconstruction.{round, rounds, reconstructed}
 use Rattle.laws.specs.Reconstruction.{PairsReconstruct, ReconstructionLaws}
-use Rattle.laws.proofs.Cells.{length-cell_by_cell, get_or-cell_by_cell, cut-met, same_from_below, below_from_cuts, area_order, same_from_area}
+use Rattle.laws.proofs.Cells.{cut-met, same_from_below, below_from_cuts, area_order, same_from_area}
+use Rattle.morphology.proofs.TakenTogether.{length-cell_by_cell, get_or-cell_by_cell}
 use Rattle.laws.proofs.Rounds.{Settled, settled_from, changes_before, changes_at_most, Fills, settles}
 
 -- the greatest of some numbers is at least each of them, and at most what each of them is
@@ -25,15 +26,19 @@ greatest_at_most zero f n each = omega arith
 greatest_at_most (suc top) f n each = omega (arith, each (suc top) (omega arith) (omega arith), greatest_at_most top f n (λ a high within. each a high (omega arith)))
 
 -- a sheet of so many cells, nowhere above the upper sheet, as every meet with that one is
-record Under (cells : ℕ) (g f : List ℕ) : Type 0 where
-  sheet : length f ≡ cells
-  below : Below f g
+pub record Under (cells : ℕ) (g f : List ℕ) : Type 0 where
+  pub sheet : length f ≡ cells
+  pub below : Below f g
 
-met_under : (cells : ℕ) (f g : List ℕ) → length f ≡ cells → length g ≡ cells → Under cells g (met f g)
+pub met_under : (cells : ℕ) (f g : List ℕ) → length f ≡ cells → length g ≡ cells → Under cells g (met f g)
 met_under cells f g marker upper = record {
   sheet = length-cell_by_cell min f g (marker ∙ sym upper) ∙ marker;
   below = λ p. omega (arith, get_or-cell_by_cell min f g p 0 0 (marker ∙ sym upper) refl);
 }
+
+-- what is nowhere above two sheets is nowhere above their meet
+pub met_above : (f a g : List ℕ) → length a ≡ length g → Below f a → Below f g → Below f (met a g)
+met_above f a g same one two p = omega (arith, get_or-cell_by_cell min a g p 0 0 same refl, one p, two p)
 
 -- the sheet after so many rounds
 abbrev after : (List ℕ → List ℕ) → List ℕ → List ℕ → ℕ → List ℕ
@@ -46,7 +51,7 @@ module _ (cells : ℕ) (swell : List ℕ → List ℕ) (flat : FlatOperator cell
     round_under f under = met_under cells (swell f) g (flat.sheet f under.sheet) upper
 
     round_above : (f : List ℕ) → Under cells g f → Below f (round swell g f)
-    round_above f under p = omega (arith, get_or-cell_by_cell min (swell f) g p 0 0 (flat.sheet f under.sheet ∙ sym upper) refl, above f under.sheet p, under.below p)
+    round_above f under = met_above f (swell f) g (flat.sheet f under.sheet ∙ sym upper) (above f under.sheet) under.below
 
     round_fills : Fills (round swell g) (Under cells g) (λ f. area g - area f)
     round_fills = record {

@@ -19,7 +19,7 @@ settled_from map f t (suc u) later settled = elim (cases_lt u t) [
 ]
 
 -- the changing times are none, or one and those of the changed list
-count_changing : (most : ℕ) (map : List ℕ → List ℕ) (f : List ℕ) → ((map f ≡ f) × (changing_times (suc most) map f ≡ 0)) ⊎ ((map f ≢ f) × (changing_times (suc most) map f ≡ suc (changing_times most map (map f))))
+pub count_changing : (most : ℕ) (map : List ℕ → List ℕ) (f : List ℕ) → ((map f ≡ f) × (changing_times (suc most) map f ≡ 0)) ⊎ ((map f ≢ f) × (changing_times (suc most) map f ≡ suc (changing_times most map (map f))))
 count_changing most map f =
     let test = bytes_eq-Decides (map f) f in
     elim (cases_Bool (bytes_eq (map f) f)) [

@@ -13,7 +13,7 @@ use Rattle.operators.specs.Restoring.{piece_of, plus, rebuilt}
 use Rattle.operators.specs.Skeletons.{concatenated, minus, skeleton, skeleton_piece}
 use Rattle.laws.specs.Skeletons.{PairsRestore}
 use Rattle.laws.specs.Sums.{ListSum, HeightsAtMost}
-use Rattle.laws.proofs.Cells.{get_or-cell_by_cell, length-cell_by_cell}
+use Rattle.morphology.proofs.TakenTogether.{get_or-cell_by_cell, length-cell_by_cell}
 use Rattle.laws.proofs.Maps.{flat_topped}
 use Rattle.laws.proofs.Openings.{opening_flat, shrunk}
 use Rattle.laws.proofs.Sums.{list_fold_append, list_fold_none, list_fold_same}

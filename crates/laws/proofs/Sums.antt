@@ -6,7 +6,7 @@ use Rattle.std.proofs.lemmas.List.{get_or-append_right, length-append}
 use Rattle.morphology.specs.Cells.{cell_by_cell, cut}
 use Rattle.laws.specs.Sums.{ListFold, HeightsAtMost, fold_heights}
 use Rattle.std.proofs.lemmas.List.{get_or_past, length-map}
-use Rattle.laws.proofs.Cells.{get_or-shorter, length-shorter}
+use Rattle.morphology.proofs.TakenTogether.{get_or-shorter, length-shorter}
 use Rattle.laws.proofs.Cuts.{cut_height, topped_rest}
 
 -- a list whose numbers each become another, at each place

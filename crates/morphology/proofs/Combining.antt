@@ -5,6 +5,7 @@ use Rattle.morphology.specs.declared.extremum.Extremum.{Extremum}
 use Rattle.morphology.specs.declared.extremum.Extremum.TheVariants.{Minimum, Maximum}
 use Rattle.morphology.specs.Cells.{cell_by_cell, combined}
 use Rattle.morphology.specs.Passes.{extreme}
+use Rattle.morphology.proofs.TakenTogether.{get_or-shorter}
 
 -- the first list, its first k heights combined with those of the second
 abbrev pub combined_below : (ℕ → ℕ → ℕ) → ℕ → List ℕ → List ℕ → List ℕ
@@ -38,11 +39,5 @@ combined_by_extreme : (which : Extremum) (f g : List ℕ) → cell_by_cell (extr
 combined_by_extreme Minimum f g = refl
 combined_by_extreme Maximum f g = refl
 
-get_or-cell_by_cell : (op : ℕ → ℕ → ℕ) (f g : List ℕ) (k : ℕ) → k < length f → k < length g → get_or (cell_by_cell op f g) k 0 ≡ op (get_or f k 0) (get_or g k 0)
-get_or-cell_by_cell op [] g k a b = absurd (omega arith)
-get_or-cell_by_cell op (x ∷ f) [] k a b = absurd (omega arith)
-get_or-cell_by_cell op (x ∷ f) (y ∷ g) zero a b = refl
-get_or-cell_by_cell op (x ∷ f) (y ∷ g) (suc k) a b = get_or-cell_by_cell op f g k (omega arith) (omega arith)
-
 pub get_or-combined : (which : Extremum) (f g : List ℕ) (k : ℕ) → k < length f → k < length g → get_or (combined which f g) k 0 ≡ extreme which (get_or f k 0) (get_or g k 0)
-get_or-combined which f g k a b = ap (λ xs. get_or xs k 0) (sym (combined_by_extreme which f g)) ∙ get_or-cell_by_cell (extreme which) f g k a b
+get_or-combined which f g k a b = ap (λ xs. get_or xs k 0) (sym (combined_by_extreme which f g)) ∙ get_or-shorter (extreme which) f g k 0 0 (omega arith)

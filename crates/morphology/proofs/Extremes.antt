@@ -24,7 +24,7 @@ absorbs_start which a [] = extreme_same which a
 absorbs_start which a (x ∷ xs) = absorbs_left which (fold (extreme which) (extreme which a x) xs) a x (absorbs_start which (extreme which a x) xs)
 
 -- a fold from the extreme of two heights
-fold_from_both : (which : Extremum) (a x : ℕ) (xs : List ℕ) → fold (extreme which) (extreme which a x) xs ≡ extreme which a (fold (extreme which) x xs)
+pub fold_from_both : (which : Extremum) (a x : ℕ) (xs : List ℕ) → fold (extreme which) (extreme which a x) xs ≡ extreme which a (fold (extreme which) x xs)
 fold_from_both which a x [] = refl
 fold_from_both which a x (y ∷ ys) = ap (λ z. fold (extreme which) z ys) (regroup which a x y) ∙ fold_from_both which a (extreme which x y) ys
   where

@@ -5,3 +5,4 @@ pub mod Extremes
 pub mod Sweeping
 pub mod Definitions
 pub mod Combining
+pub mod TakenTogether

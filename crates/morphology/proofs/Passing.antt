@@ -43,6 +43,12 @@ map-rewritten : {X : Type 0} (height : X → ℕ) (b n : ℕ) (xs ys : List X) �
 map-rewritten height b n xs ys = rw (map-append, map-append, take-map, drop-map, drop-map) refl
 
 module _ {X : Type 0} (height : X → ℕ) (which : Extremum) (v : ℕ → ℕ) (was : List ℕ) (b n e : ℕ) (xs ys : List X) (end : b + n ≡ e) (within : e ≤ length xs) (long : length ys ≡ n) (passed : Passed which v was (map height xs) b) where
+  -- the next n cells are still as they were
+  pub part_was : (m : ℕ) → m < n → get_or (map height (take n (drop b xs))) m 0 ≡ get_or was (b + m) 0
+  part_was m h =
+      ap (λ zs. get_or zs m 0) (heights_of_part height n b xs)
+      ∙ get_or-take n _ m 0 h ∙ get_or-drop b _ m 0 ∙ passed.after (b + m) (omega arith)
+
   -- the next n cells rewritten, each as the extreme of its height and v at its place
   pub passed_more : ((m : ℕ) → m < n → get_or (map height ys) m 0 ≡ extreme which (get_or (map height (take n (drop b xs))) m 0) (v (b + m))) → Passed which v was (map height (rewritten b n xs ys)) e
   passed_more part = rw map-rewritten record {
@@ -50,11 +56,8 @@ module _ {X : Type 0} (height : X → ℕ) (which : Extremum) (v : ℕ → ℕ) 
       | inl l ↦ rewritten_before b n (map height xs) (map height ys) p (rw length-map (omega arith)) l ∙ passed.before p l
       | inr g ↦
           let place : b + (p - b) ≡ p = omega arith in
-          let stood : get_or (map height (take n (drop b xs))) (p - b) 0 ≡ get_or was p 0 =
-          ap (λ zs. get_or zs (p - b) 0) (heights_of_part height n b xs)
-          ∙ get_or-take n _ (p - b) 0 (omega arith) ∙ get_or-drop b _ (p - b) 0 ∙ ap (λ k. get_or (map height xs) k 0) place ∙ passed.after p g in
           rewritten_at b n (map height xs) (map height ys) p (rw length-map (omega arith)) (rw length-map long) g (omega arith)
-          ∙ part (p - b) (omega arith) ∙ ap (λ z. extreme which z (v (b + (p - b)))) stood ∙ ap (λ k. extreme which (get_or was p 0) (v k)) place
+          ∙ part (p - b) (omega arith) ∙ ap (λ z. extreme which z (v (b + (p - b)))) (part_was (p - b) (omega arith)) ∙ ap (λ k. extreme which (get_or was k 0) (v k)) place
     ];
     after = λ p h. rewritten_after b n (map height xs) (map height ys) p (rw length-map (omega arith)) (rw length-map long) (omega arith) ∙ passed.after p (omega arith);
   }

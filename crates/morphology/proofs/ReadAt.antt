@@ -11,10 +11,10 @@ use Rattle.morphology.specs.Sheets.{height_at}
 use Rattle.morphology.specs.Passes.{neighbour, read_at, turned}
 
 -- c − 3 cells on from x, where that is no less than 0, and where it is
-on_from : (x c : ℕ) → 3 ≤ x + c → pos x +ℤ (pos c -ℤ pos 3) ≡ pos (x + c - 3)
+pub on_from : (x c : ℕ) → 3 ≤ x + c → pos x +ℤ (pos c -ℤ pos 3) ≡ pos (x + c - 3)
 on_from x c far = omega (arith, ints)
 
-back_from : (x c : ℕ) → x + c < 3 → pos x +ℤ (pos c -ℤ pos 3) ≡ negsuc (2 - (x + c))
+pub back_from : (x c : ℕ) → x + c < 3 → pos x +ℤ (pos c -ℤ pos 3) ≡ negsuc (2 - (x + c))
 back_from x c near = omega (arith, ints)
 
 -- back by an offset is on by the opposite one

@@ -50,18 +50,16 @@ in_row-neighbour w h f c r row k m whole within on =
         ap (λ x. cond (on_side w m c) x 0) (get_or-take k _ (m + c - 3) 0 inside ∙ get_or-drop _ f (m + c - 3) 0)
     part false is = rw (← is) refl
 
--- the first rows of a sheet read outside where they read further up, and the last rows where they read further down
-pub above_outside : (w h : ℕ) (f : List ℕ) (c r p : ℕ) → 1 ≤ w → p < w * h → p < min (3 - r) h * w → at_place w (neighbour w h f c r) p ≡ 0
-above_outside w h f c r p wide on low =
-    let row : p / w < min (3 - r) h = div_below p w (min (3 - r) h) wide low in
-    let off = off_start h (p / w) r (div_below p w h wide (rw mul_comm on)) row in
-    ap (λ b. cond (b && on_side w (p % w) c) (get_or f ((p / w + r - 3) * w + (p % w + c - 3)) 0) 0) off
+-- the first rows of a sheet have no rows further up that lie on it, and the last rows none further down
+pub above_off : (w h r p : ℕ) → 1 ≤ w → p < w * h → p < min (3 - r) h * w → on_side h (p / w) r ≡ false
+above_off w h r p wide on low = off_start h (p / w) r (div_below p w h wide (rw mul_comm on)) (div_below p w (min (3 - r) h) wide low)
 
-pub below_outside : (w h : ℕ) (f : List ℕ) (c r p : ℕ) → 1 ≤ w → p < w * h → (h - min (r - 3) h) * w ≤ p → at_place w (neighbour w h f c r) p ≡ 0
-below_outside w h f c r p wide on high =
-    let row : h - min (r - 3) h ≤ p / w = le-div (h - min (r - 3) h) p w wide high in
-    let off = off_end h (p / w) r (div_below p w h wide (rw mul_comm on)) row in
-    ap (λ b. cond (b && on_side w (p % w) c) (get_or f ((p / w + r - 3) * w + (p % w + c - 3)) 0) 0) off
+pub below_off : (w h r p : ℕ) → 1 ≤ w → p < w * h → (h - min (r - 3) h) * w ≤ p → on_side h (p / w) r ≡ false
+below_off w h r p wide on high = off_end h (p / w) r (div_below p w h wide (rw mul_comm on)) (le-div (h - min (r - 3) h) p w wide high)
+
+-- and so they read outside there
+pub row_outside : (w h : ℕ) (f : List ℕ) (c r p : ℕ) → on_side h (p / w) r ≡ false → at_place w (neighbour w h f c r) p ≡ 0
+row_outside w h f c r p off = ap (λ b. cond (b && on_side w (p % w) c) (get_or f ((p / w + r - 3) * w + (p % w + c - 3)) 0) 0) off
 
 -- the first rows of a sheet lie within it
 pub rows_within : (w h rows : ℕ) → rows ≤ h → rows * w ≤ w * h

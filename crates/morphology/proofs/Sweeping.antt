@@ -22,8 +22,15 @@ flagged_more k (suc i) (b ∷ bs) =
       | false ↦ rest
     ]
 
+module _ (flags : List Bool) (i : ℕ) where
+  pub flagged_set : get_or flags i false ≡ true → flagged 0 (take (i + 1) flags) ≡ flagged 0 (take i flags) ++ offset_at i ∷ []
+  flagged_set held = rw add-one (flagged_more 0 i flags ∙ rw (held, zero-add) refl)
+
+  pub flagged_clear : get_or flags i false ≡ false → flagged 0 (take (i + 1) flags) ≡ flagged 0 (take i flags)
+  flagged_clear missing = rw add-one (flagged_more 0 i flags ∙ rw missing (append-nil _))
+
 module _ (op : Operation) (w h : ℕ) (f : List ℕ) (p : ℕ) where
-  swept-push : (offsets : List (ℤ × ℤ)) (o : ℤ × ℤ) → swept op w h f (offsets ++ o ∷ []) p ≡ extreme (kept_by op) (swept op w h f offsets p) (read_at op w h f (p % w) (p / w) o)
+  pub swept-push : (offsets : List (ℤ × ℤ)) (o : ℤ × ℤ) → swept op w h f (offsets ++ o ∷ []) p ≡ extreme (kept_by op) (swept op w h f offsets p) (read_at op w h f (p % w) (p / w) o)
   swept-push offsets o =
       let reach = read_at op w h f (p % w) (p / w) in
       ap (fold (extreme (kept_by op)) (get_or f p 0)) (map_push reach offsets o) ∙ fold_push (extreme (kept_by op)) (get_or f p 0) (map reach offsets) (reach o)
@@ -31,14 +38,9 @@ module _ (op : Operation) (w h : ℕ) (f : List ℕ) (p : ℕ) where
   -- one turn of the sweep, at a flag that is set and at one that is not: x is the cell before it, and y after
   pub sweep_set : (flags : List Bool) (i x y : ℕ) → i < 49 → get_or flags i false ≡ true → x ≡ swept op w h f (flagged 0 (take i flags)) p → y ≡ extreme (kept_by op) x (at_place w (neighbour w h f (turned op (i % 7)) (turned op (i / 7))) p) → y ≡ swept op w h f (flagged 0 (take (i + 1) flags)) p
   sweep_set flags i x y on held was is =
-      let more : flagged 0 (take (i + 1) flags) ≡ flagged 0 (take i flags) ++ offset_at i ∷ [] =
-      rw add-one (flagged_more 0 i flags ∙ rw (held, zero-add) refl) in
       is ∙ ap (λ z. extreme (kept_by op) z (at_place w (neighbour w h f (turned op (i % 7)) (turned op (i / 7))) p)) was
       ∙ ap (extreme (kept_by op) _) (neighbour-read_at op w h f i (p % w) (p / w) on)
-      ∙ sym (ap (λ os. swept op w h f os p) more ∙ swept-push (flagged 0 (take i flags)) (offset_at i))
+      ∙ sym (ap (λ os. swept op w h f os p) (flagged_set flags i held) ∙ swept-push (flagged 0 (take i flags)) (offset_at i))
 
   pub sweep_clear : (flags : List Bool) (i x : ℕ) → get_or flags i false ≡ false → x ≡ swept op w h f (flagged 0 (take i flags)) p → x ≡ swept op w h f (flagged 0 (take (i + 1) flags)) p
-  sweep_clear flags i x missing was =
-      let same : flagged 0 (take (i + 1) flags) ≡ flagged 0 (take i flags) =
-      rw add-one (flagged_more 0 i flags ∙ rw missing (append-nil _)) in
-      was ∙ sym (ap (λ os. swept op w h f os p) same)
+  sweep_clear flags i x missing was = was ∙ sym (ap (λ os. swept op w h f os p) (flagged_clear flags i missing))

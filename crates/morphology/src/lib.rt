@@ -16,6 +16,6 @@ pub use extremum::Extremum;
 pub use map::SheetMap;
 pub use operation::Operation;
 pub use passes::margins;
-pub use runs::combine;
+pub use runs::keep_extremes;
 pub use sheets::check_sheets;
 pub use transform::{ByElement, CellByCell, Transform};

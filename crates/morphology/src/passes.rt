@@ -53,7 +53,7 @@ pub(crate) fn pass<L: Level>(
     let (above, below) = margins(sides.h, r);
     let end = sides.h - below;
     combine_outside(which, &mut to[..above * w]);
-    // By number: tried with `chunks_exact_mut(w)`, after which a proof knows nothing of what was written to the rows.
+    // By number: after `chunks_exact_mut(w)` a proof knows nothing of what was written to the rows.
     for row in above..end {
         let source = (row + r - 3) * w;
         let target = row * w;

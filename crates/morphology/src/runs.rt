@@ -13,7 +13,7 @@ pub(crate) fn combine_run<L: Level>(which: Extremum, others: &[L], cells: &mut [
     requires { length others.now ≡ length cells.old }
     ensures { map L.height cells.new ≡ combined which (map L.height cells.old) (map L.height others.now) }
 {
-    // The others by place: tried with a zip, after which a proof knows no more of the cells than their length.
+    // The others by place: after a zip a proof knows no more of the cells than their length.
     for (k, cell) in cells.iter_mut().enumerate() {
         *cell = which.kept(*cell, others[k]);
     }
@@ -30,7 +30,7 @@ pub(crate) fn combine_outside<L: Level>(which: Extremum, cells: &mut [L])
 
 /// Keeps at each cell the lower or the higher of itself and of the other at its place.
 /// Refuses two lists of different lengths (4), and then leaves the cells as they were.
-pub fn combine<L: Level>(which: Extremum, others: &[L], cells: &mut [L]) -> Result<(), Fault>
+pub fn keep_extremes<L: Level>(which: Extremum, others: &[L], cells: &mut [L]) -> Result<(), Fault>
     ensures answers { result ≡ told (first (not (length others.now == length cells.old)) Length None) }
     ensures memory { MatchResult result
         (λ _. map L.height cells.new ≡ combined which (map L.height cells.old) (map L.height others.now))

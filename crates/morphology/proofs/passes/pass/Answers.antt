@@ -4,7 +4,7 @@ use Rattle.std.proofs.lemmas.Nat.{mul-le}
 use Rattle.morphology.specs.Passes.{extreme, neighbour}
 use Rattle.morphology.specs.Sheets.{at_place}
 use Rattle.morphology.proofs.Passing.{heights_of_part, passed_more, passed_none, passed_outside}
-use Rattle.morphology.proofs.Rows.{above_outside, below_outside, in_row-neighbour, next_row, on_its_side, rows_within}
+use Rattle.morphology.proofs.Rows.{above_off, below_off, in_row-neighbour, next_row, on_its_side, row_outside, rows_within}
 use Rattle.morphology.proofs.passes.pass.Goals as goal
 
 pub loop-row-init : goal.loop-row-init
@@ -15,7 +15,7 @@ loop-row-init g c =
     let within : above * w ≤ length c.args.to.now = omega (arith, rows_within w h above (omega arith)) in
     passed_outside g.L.Level.height c.args.which (at_place w (neighbour w h (map g.L.Level.height c.args.from.now) c.args.c c.args.r)) _ 0 (above * w) (above * w) c.args.to.now c.combine_outside.new.cells
     (zero-add _) within (c.combine_outside.auto.cells ∙ length-take-le (above * w) c.args.to.now within) (passed_none _ _ _)
-    (λ p low high. above_outside w h _ c.args.c c.args.r p c.args.sides.some_column (omega arith) (rw (← c.margins-above.ensures.start) high)) c.combine_outside.ensures
+    (λ p low high. row_outside w h _ c.args.c c.args.r p (above_off w h c.args.r p c.args.sides.some_column (omega arith) (rw (← c.margins-above.ensures.start) high))) c.combine_outside.ensures
 
 pub offset_bounds-to-target : goal.offset_bounds-to-target
 offset_bounds-to-target g c =
@@ -62,5 +62,5 @@ returns g c p on =
     let all : c.loop-row.row ≡ end = omega (arith, c.loop-row.auto.row-end) in
     (passed_outside height c.args.which (at_place w (neighbour w h (map height c.args.from.now) c.args.c c.args.r)) (map height c.args.to.now) (end * w) n (w * h) to last
     (omega (arith, long)) (omega (arith, long)) (c.combine_outside-2.auto.cells ∙ length-take-le n (drop (end * w) to) (rw length-drop (omega arith))) (rw (← all) c.loop-row.invariant)
-    (λ q low high. below_outside w h _ c.args.c c.args.r q c.args.sides.some_column high (rw (← c.margins-above.ensures.end) low))
+    (λ q low high. row_outside w h _ c.args.c c.args.r q (below_off w h c.args.r q c.args.sides.some_column high (rw (← c.margins-above.ensures.end) low)))
     c.combine_outside-2.ensures).before p on

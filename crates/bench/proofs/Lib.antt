@@ -5,3 +5,6 @@ pub mod Stored
 pub mod Places
 pub mod Unused
 pub mod KeptVisits
+pub mod StoredTallies
+pub mod Combining
+pub mod CombinedTallies

@@ -1,7 +1,7 @@
 -- Cells written into memory, as the code writes them and by their heights. Assumes nothing.
-use Rattle.std.proofs.Common.{◌≡◌, ℕ, ◌+◌, ◌*◌, ◌≤◌, List, [], ◌∷◌, ◌++◌, map, length, take, drop, replicate, None, subst, sym, refl, ap, ◌∙◌}
+use Rattle.std.proofs.Common.{◌≡◌, ℕ, ◌+◌, ◌*◌, ◌≤◌, List, [], ◌∷◌, ◌++◌, map, length, take, drop, replicate, None, subst, sym, refl, ap, ◌∙◌, arith}
 use Rattle.std.specs.List.{FoldsTo}
-use Rattle.std.proofs.lemmas.List.{map-append, take-map, drop-map, length-map}
+use Rattle.std.proofs.lemmas.List.{drop-map, length-append, length-drop, length-map, length-take-le, map-append, take-map}
 use Rattle.std.proofs.lemmas.Bool.{le-leb, eq-eqb}
 use Rattle.morphology.specs.Sheets.{lists_refusal}
 use Rattle.bench.specs.Model.{overwritten}
@@ -13,6 +13,11 @@ map-overwritten f start cells memory =
     ∙ ap (λ front. front ++ map f (cells ++ drop (start + length cells) memory)) (sym (take-map f start memory))
     ∙ ap (λ back. take start (map f memory) ++ back)
     (map-append f cells _ ∙ ap (λ rest. map f cells ++ rest) (sym (drop-map f (start + length cells) memory) ∙ ap (λ n. drop (start + n) (map f memory)) (sym (length-map cells f))))
+
+-- memory that was written to is as long
+pub length-overwritten : {X : Type 0} (start : ℕ) (cells memory : List X) → start + length cells ≤ length memory → length (overwritten start cells memory) ≡ length memory
+length-overwritten start cells memory room =
+    simp (length-append, length-drop) (let front = length-take-le start memory (omega arith) in omega arith)
 
 -- four lists of the right length with lawful sides are accepted
 pub lists_accepted : (w h one other to spare : ℕ) → 1 ≤ w → w ≤ 1024 → 1 ≤ h → h ≤ 1024 → one ≡ w * h → other ≡ w * h → to ≡ w * h → spare ≡ w * h

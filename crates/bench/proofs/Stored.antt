@@ -20,7 +20,7 @@ module _ {X : Type 0} (start : ℕ) (cells memory : List X) (room : start + leng
       (λ k d h. elim apart [ inl below ↦ grind (arith, places) | inr above ↦ grind (arith, places) ])
 
 -- two places do not overlap
-places_apart : (c j k : ℕ) → 1 ≤ j → 1 ≤ k → j ≢ k → (place_start c j + c ≤ place_start c k) ⊎ (place_start c k + c ≤ place_start c j)
+pub places_apart : (c j k : ℕ) → 1 ≤ j → 1 ≤ k → j ≢ k → (place_start c j + c ≤ place_start c k) ⊎ (place_start c k + c ≤ place_start c j)
 places_apart c j k first second other = elim (cases_order j k) [
   | inl same ↦ absurd (other same)
   | inr order ↦ elim order [ inl less ↦ inl (after j k first less) | inr more ↦ inr (after k j second more) ]

@@ -6,7 +6,7 @@ use Rattle.limits.specs.declared.fault.Fault.TheVariants.{Length, SheetPlace, Ta
 use Rattle.limits.specs.Faults.{first, tells, unless}
 use Rattle.limits.specs.Sizes.{lawful_flat, sizes_refusal}
 use Rattle.bench.specs.declared.rack.Rack.{Rack}
-use Rattle.bench.specs.Model.{Outline, State, cells_from, flat_of, is_place, overwritten, place_start, places_of, rack_outline, rack_state, sheet_of, visit_to}
+use Rattle.bench.specs.Model.{Outline, State, cells_from, flat_of, is_place, overwritten, place_start, places_of, plane_of, rack_outline, rack_state, sheet_of, visit_to}
 
 -- every place empty, and no visit open
 abbrev pub opened : {C : Type 0} → ℕ → ℕ → ℕ → State C
@@ -32,6 +32,10 @@ stored s k c = record {
   content = λ j. cond (j == k) (Some c) (s.content j);
 }
 
+-- and unless there is a refusal
+abbrev pub stored_unless : {C : Type 0} → Option Fault → State C → ℕ → C → State C
+stored_unless refusal s k c = unless refusal (stored s k c) s
+
 -- load: the picture's length, then the place, then the visit
 abbrev pub load_refusal : Outline → ℕ → ℕ → Option Fault
 load_refusal o k len =
@@ -40,7 +44,7 @@ load_refusal o k len =
     (first (not (is_some o.visit)) NoVisit None))
 
 abbrev pub load_leaves : State (List ℕ) → ℕ → List ℕ → State (List ℕ)
-load_leaves s k picture = unless (load_refusal s.outline k (length picture)) (stored s k picture) s
+load_leaves s k picture = stored_unless (load_refusal s.outline k (length picture)) s k picture
 
 -- what is read from a place: the place, then the visit, then whether it is filled
 abbrev pub source_refusal : Fault → Fault → Outline → ℕ → Option Fault
@@ -54,6 +58,13 @@ sheet_refusal = source_refusal SheetPlace EmptySheet
 
 abbrev pub tally_refusal : Outline → ℕ → Option Fault
 tally_refusal = source_refusal TallyPlace EmptyTally
+
+-- the sheets in two places, the same or not: the places, then the visit, then whether they are filled
+abbrev pub sources_refusal : Outline → ℕ → ℕ → Option Fault
+sources_refusal o one other =
+    first (not (is_place o.places one && is_place o.places other)) SheetPlace
+    (first (not (is_some o.visit)) NoVisit
+    (first (not (o.filled one && o.filled other)) EmptySheet None))
 
 -- a sheet made of those in two places into a third, each the same as another or not: the places, then the visit, then the sources
 abbrev pub make_refusal : Outline → ℕ → ℕ → ℕ → Option Fault
@@ -77,28 +88,51 @@ made_from made w h one other heights = made w h (cells_from one (w * h) heights)
 abbrev pub made_of : {X : Type 0} → OfTwo X → State (List ℕ) → ℕ → ℕ → X
 made_of made s one other = made s.outline.w s.outline.h (sheet_of s one) (sheet_of s other)
 
--- the state after a sheet was made
-abbrev pub make_leaves : Making → State (List ℕ) → ℕ → ℕ → ℕ → State (List ℕ)
-make_leaves made s one other to =
-    unless (make_refusal s.outline one other to) (stored s to (made_of made s one other)) s
-
 -- the memory is the one that was lent, and as long
 pub record SameMemory {X : Type 0} (was is : MutBor (List X)) : Type 0 where
   pub reference : is.ghost_name ≡ was.ghost_name
   pub long : length is.now ≡ length was.now
 
--- A call makes a sheet so: it tells its refusal, or what is reported of the sources; leaves the state by its definition; and of the
--- places changes just the target's cells. The working planes are free, but a refusal leaves them too.
-pub record MakesSheet {L T : Type 0} (height : L → ℕ) (made : Making) (report : OfTwo T) (was is : Rack L) (one other to : ℕ)
+-- A call makes a sheet in the first working plane so: it tells its refusal, or what is reported of the sources; no place changes; and the plane
+-- is what is made of the sources. The second plane is free; a refusal leaves both as they
+-- were.
+pub record MakesInPlane {L T : Type 0} (height : L → ℕ) (made : Making) (report : OfTwo T) (was is : Rack L) (one other : ℕ)
     (answer : Result T Fault) : Type 0 where
-  pub answers : answer ≡ tells (make_refusal (rack_outline was) one other to) (made_of report (rack_state height was) one other)
-  pub steps : rack_state height is ≡ make_leaves made (rack_state height was) one other to
+  pub answers : answer ≡ tells (sources_refusal (rack_outline was) one other) (made_of report (rack_state height was) one other)
+  pub steps : rack_state height is ≡ rack_state height was
+  pub memory : MatchResult answer
+      (λ _. (places_of was.marks (map height is.memory.now) ≡ places_of was.marks (map height was.memory.now))
+      × (plane_of is.marks (map height is.memory.now) ≡ made_of made (rack_state height was) one other))
+      (λ _. is.memory.now ≡ was.memory.now)
+  pub lent : SameMemory was.memory is.memory
+
+-- A call keeps the sheets of a rack so: the state is the same, and so are the cells of all places. The working planes are
+-- free; a refusal leaves them as they were.
+pub record KeepsSheets {L T : Type 0} (height : L → ℕ) (was is : Rack L) (answer : Result T Fault) : Type 0 where
+  pub steps : rack_state height is ≡ rack_state height was
+  pub memory : MatchResult answer
+      (λ _. places_of was.marks (map height is.memory.now) ≡ places_of was.marks (map height was.memory.now))
+      (λ _. is.memory.now ≡ was.memory.now)
+  pub lent : SameMemory was.memory is.memory
+
+-- A call makes a sheet so, unless there is a refusal: it tells that, or what is reported of the sources; the state is the one with the
+-- sheet in the target; and of the places just the target's cells change. The working planes are free; a refusal leaves them
+-- as they were.
+pub record MakesUnless {L T : Type 0} (height : L → ℕ) (refusal : Option Fault) (made : Making) (report : OfTwo T) (was is : Rack L)
+    (one other to : ℕ) (answer : Result T Fault) : Type 0 where
+  pub answers : answer ≡ tells refusal (made_of report (rack_state height was) one other)
+  pub steps : rack_state height is ≡ stored_unless refusal (rack_state height was) to (made_of made (rack_state height was) one other)
   pub memory : MatchResult answer
       (λ _. places_of was.marks (map height is.memory.now)
       ≡ overwritten (place_start (was.marks.w * was.marks.h) to) (made_of made (rack_state height was) one other)
       (places_of was.marks (map height was.memory.now)))
       (λ _. is.memory.now ≡ was.memory.now)
   pub lent : SameMemory was.memory is.memory
+
+-- and with no refusal but that of the places, the visit and the sources
+abbrev pub MakesSheet : {L T : Type 0} → (L → ℕ) → Making → OfTwo T → Rack L → Rack L → ℕ → ℕ → ℕ → Result T Fault → Type 0
+MakesSheet height made report was is one other to answer =
+    MakesUnless height (make_refusal (rack_outline was) one other to) made report was is one other to answer
 
 -- nothing is reported of two sheets
 abbrev pub no_report : OfTwo (Unit {0})

@@ -1,10 +1,12 @@
 -- The state of a rack or a slate, as its users know it. Assumes nothing.
-use Rattle.std.specs.Prelude.{◌≡◌, ℕ, ◌+◌, ◌-◌, ◌*◌, Bool, cond, ◌&&◌, List, [], ◌++◌, map, length, take, drop, ℤ, is_some, None, Option, nat_le, option_map, slice_index_or, unwrap_or}
+use Rattle.std.specs.Prelude.{◌≡◌, ℕ, ◌+◌, ◌*◌, Bool, List, [], ◌++◌, map, length, take, drop, is_some, Option, option_map, unwrap_or}
 use Rattle.bench.specs.declared.marks.Marks.{Marks}
 use Rattle.bench.specs.declared.rack.Rack.{Rack}
 use Rattle.bench.specs.declared.slate.Slate.{Slate}
 use Rattle.bench.specs.declared.slip.Slip.{Slip}
 use Rattle.bench.specs.declared.visit.Visit.{Visit}
+use Rattle.weights.specs.Weights.{Tally, no_tally, weighed}
+pub use Rattle.bench.specs.Places.{cells_from, cells_of, is_place, kept, place_start}
 
 -- The outline of a rack or a slate: its sides, how many places it has, the open visit or none, and which
 -- places, counted from 1, are filled. Every refusal of the bench is told from outlines, and 36 also from the weight of the tally to be
@@ -15,11 +17,6 @@ pub record Outline : Type 0 where
   pub places : ℕ
   pub visit : Option Visit
   pub filled : ℕ → Bool
-
--- A tally: a signed number for each cell, and a weight.
-pub record Tally : Type 0 where
-  pub cells : List ℤ
-  pub weight : ℕ
 
 -- the visit to a flat
 abbrev pub visit_to : ℕ → Visit
@@ -40,22 +37,7 @@ sheet_of s k = unwrap_or (s.content k) []
 
 -- the tally in place k of a slate; no cells where the place is empty
 abbrev pub tally_of : State Tally → ℕ → Tally
-tally_of s k = unwrap_or (s.content k) (record { cells = []; weight = 0 })
-
--- whether k is one of that many places, counted from 1
-abbrev pub is_place : ℕ → ℕ → Bool
-is_place places k = nat_le 1 k && nat_le k places
-
--- so many cells of memory, from a start on
-abbrev pub cells_from : {X : Type 0} → ℕ → ℕ → List X → List X
-cells_from start cells memory = take cells (drop start memory)
-
--- where the cells of place k begin, and which they are, where each place has so many cells
-abbrev pub place_start : ℕ → ℕ → ℕ
-place_start cells k = (k - 1) * cells
-
-abbrev pub cells_of : {X : Type 0} → ℕ → ℕ → List X → List X
-cells_of cells k memory = cells_from (place_start cells k) cells memory
+tally_of s k = unwrap_or (s.content k) no_tally
 
 -- memory with other cells from a start on
 abbrev pub overwritten : {X : Type 0} → ℕ → List X → List X → List X
@@ -65,15 +47,15 @@ overwritten start cells memory = take start memory ++ (cells ++ drop (start + le
 abbrev pub places_of : {T X : Type 0} → Marks T → List X → List X
 places_of m memory = take (m.places * (m.w * m.h)) memory
 
+-- the first working plane, which lies right behind all places
+abbrev pub plane_of : {T X : Type 0} → Marks T → List X → List X
+plane_of m memory = cells_from (m.places * (m.w * m.h)) (m.w * m.h) memory
+
 -- marks with the same sides and places
 pub record SameSizes {T : Type 0} (was is : Marks T) : Type 0 where
   pub w : is.w ≡ was.w
   pub h : is.h ≡ was.h
   pub places : is.places ≡ was.places
-
--- what marks keep for place k, which is nothing where there is no such place or it is empty
-abbrev pub kept : {T : Type 0} → Marks T → ℕ → Option T
-kept m k = cond (is_place m.places k) (slice_index_or m.filled (k - 1) None) None
 
 -- the outline that marks stand for
 abbrev pub outline_of : {T : Type 0} → Marks T → Outline
@@ -107,13 +89,9 @@ sheet_held nothing cells = cells
 abbrev pub rack_state : {L : Type 0} → (L → ℕ) → Rack L → State (List ℕ)
 rack_state height r = state_of sheet_held r.marks (map height r.memory.now)
 
--- what a place of a slate holds: of a tally its weight is kept beside its cells
-abbrev pub tally_held : ℕ → List ℤ → Tally
-tally_held weight cells = record { cells = cells; weight = weight }
-
 -- the state of a slate
 abbrev pub slate_state : Slate → State Tally
-slate_state s = state_of tally_held s.marks s.memory.now
+slate_state s = state_of weighed s.marks s.memory.now
 
 -- what a rack and its slate have in common during a visit: the visit, and the sides
 abbrev pub shared : Outline → Option Visit × ℕ × ℕ

@@ -2,9 +2,11 @@
 #![tactic(auto)]
 
 mod clearing;
+mod differences;
 mod loading;
 mod marking;
 mod marks;
+mod numbers;
 mod opening;
 mod planes;
 mod rack;
@@ -15,6 +17,7 @@ mod tallies;
 mod visit;
 mod visits;
 
+pub use differences::check_difference;
 pub use loading::load;
 pub use rack::Rack;
 pub use slate::Slate;

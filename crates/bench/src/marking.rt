@@ -1,7 +1,9 @@
 // What is read off marks, what they refuse, and how they change.
 ghost use Rattle.std.specs.Prelude.{◌≡◌, ◌-◌, ◌*◌, ◌≤◌, true, replicate, is_some, Some, None, MatchResult, slice_set};
-ghost use Rattle.bench.specs.Calls.{begin_refusal, end_refusal, equal_benches, load_refusal, make_refusal, source_refusal};
+ghost use Rattle.bench.specs.Calls.{begin_refusal, end_refusal, equal_benches, load_refusal, source_refusal, sources_refusal};
+ghost use Rattle.bench.specs.TallyCalls.{combine_refusal, difference_refusal, store_refusal, weight_refusal};
 ghost use Rattle.limits.specs.Faults.{told};
+ghost use Rattle.weights.specs.Weights.{Tally};
 ghost use Rattle.bench.specs.Model.{SameSizes, flat_of, is_place, kept, outline_of};
 
 use crate::marks::Marks;
@@ -17,7 +19,7 @@ impl<T: Copy> Marks<T> {
     }
 
     // Whether there is a place of this number.
-    fn has_place(&self, place: usize) -> bool
+    pub(crate) fn has_place(&self, place: usize) -> bool
         ensures { result ≡ is_place self.now.places place }
     {
         (1..=self.places).contains(&place)
@@ -63,11 +65,11 @@ impl<T: Copy> Marks<T> {
         self.filled[place - 1].ok_or(empty)
     }
 
-    // What a call refuses that makes a sheet of those in two places into a third: 5, 31, 34.
-    pub(crate) fn refuse_make(&self, one: usize, other: usize, to: usize) -> Result<(), Fault>
-        ensures { result ≡ told (make_refusal (outline_of self.now) one other to) }
+    // What a call refuses that makes something of the sheets in two places: 5, 31, 34.
+    pub(crate) fn refuse_sources(&self, one: usize, other: usize) -> Result<(), Fault>
+        ensures { result ≡ told (sources_refusal (outline_of self.now) one other) }
     {
-        if !self.has_place(other) || !self.has_place(to) {
+        if !self.has_place(other) {
             return Err(Fault::SheetPlace);
         }
         self.source(one, Fault::SheetPlace, Fault::EmptySheet)?;
@@ -75,6 +77,39 @@ impl<T: Copy> Marks<T> {
             return Err(Fault::EmptySheet);
         }
         Ok(())
+    }
+
+    // What a call refuses that fills a tally place from two lists of these lengths: 4, 6, 31.
+    pub(crate) fn refuse_store(&self, to: usize, one: usize, other: usize) -> Result<(), Fault>
+        ensures { result ≡ told (store_refusal (outline_of self.now) to one other) }
+    {
+        if one != self.cells() || other != self.cells() {
+            return Err(Fault::Length);
+        }
+        if !self.has_place(to) {
+            return Err(Fault::TallyPlace);
+        }
+        if self.visit.is_none() {
+            return Err(Fault::NoVisit);
+        }
+        Ok(())
+    }
+
+    // What is kept beside the cells of the tallies in two places, of which a third is made. Refuses all that such a call does
+    // but the weight of the tally to be made: 6, 31, 35.
+    pub(crate) fn tallies(&self, one: usize, other: usize, to: usize) -> Result<(T, T), Fault>
+        ensures { MatchResult result
+            (λ both. (kept self.now one ≡ Some both.0) × (kept self.now other ≡ Some both.1)
+            × ((made : Tally) → combine_refusal (outline_of self.now) made one other to ≡ weight_refusal made))
+            (λ fault. (made : Tally) → combine_refusal (outline_of self.now) made one other to ≡ Some fault) }
+    {
+        if !self.has_place(other) || !self.has_place(to) {
+            return Err(Fault::TallyPlace);
+        }
+        Ok((
+            self.source(one, Fault::TallyPlace, Fault::EmptyTally)?,
+            self.source(other, Fault::TallyPlace, Fault::EmptyTally)?,
+        ))
     }
 
     // Fills a place.
@@ -149,6 +184,34 @@ impl<T: Copy> Marks<T> {
         };
         if open != flat {
             return Err(Fault::OtherFlat);
+        }
+        if !self.equals(slate) {
+            return Err(Fault::Unequal);
+        }
+        Ok(())
+    }
+
+    // What the difference of two sheets refuses: 5, 6, 31, 34, 37.
+    pub(crate) fn refuse_difference<U: Copy>(
+        &self,
+        slate: &Marks<U>,
+        one: usize,
+        other: usize,
+        to: usize,
+    ) -> Result<(), Fault>
+        ensures { result ≡ told (difference_refusal (outline_of self.now) (outline_of slate.now) one other to) }
+    {
+        if !self.has_place(one) || !self.has_place(other) {
+            return Err(Fault::SheetPlace);
+        }
+        if !slate.has_place(to) {
+            return Err(Fault::TallyPlace);
+        }
+        if self.visit.is_none() {
+            return Err(Fault::NoVisit);
+        }
+        if !self.is_filled(one) || !self.is_filled(other) {
+            return Err(Fault::EmptySheet);
         }
         if !self.equals(slate) {
             return Err(Fault::Unequal);

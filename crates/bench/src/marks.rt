@@ -1,5 +1,5 @@
 // The marks of a rack or a slate: its sides and places, what each place is filled with, and the open visit.
-ghost use Rattle.std.specs.Prelude.{◌≡◌, ◌≤◌, min, true, ◌||◌, length, drop, is_some};
+ghost use Rattle.std.specs.Prelude.{◌≡◌, ◌*◌, ◌≤◌, min, true, ◌||◌, length, drop, is_some};
 ghost use Rattle.bench.specs.Flags.{none};
 
 use crate::visit::Visit;
@@ -18,8 +18,8 @@ pub struct Marks<T> {
     ghost twelve: { length filled ≡ 12 },
     ghost some_column: { min 1 places ≤ w },
     ghost some_row: { min 1 places ≤ h },
-    ghost wide: { w ≤ 1024 },
-    ghost high: { h ≤ 1024 },
+    ghost wide: { w ≤ min 1 places * 1024 },
+    ghost high: { h ≤ min 1 places * 1024 },
     ghost few: { places ≤ 12 },
     ghost forgotten: { (is_some visit || none filled) ≡ true },
     ghost unused: { none (drop places filled) ≡ true },

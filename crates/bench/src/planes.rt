@@ -23,32 +23,27 @@ pub(crate) fn part<T>(memory: &[T], start: usize, cells: usize) -> &[T]
     &memory[start..start + cells]
 }
 
-// Writes what a transformation makes of the sheets from two starts to the cells from a third, by way of the working planes, and
+// Writes what a transformation makes of the sheets from two starts to the first of two working planes, by way of the second, and
 // tells what the transformation reports.
 // No method: it is lent the places and the working planes at once.
-pub(crate) fn make_place<T: Transform, L: Level>(
+pub(crate) fn make_plane<T: Transform, L: Level>(
     transform: &T,
-    sheets: &mut [L],
+    sheets: &[L],
     planes: &mut [L],
     sides: Sides,
     one: usize,
     other: usize,
-    to: usize,
 ) -> T::Report
-    requires one { one + sides.w * sides.h ≤ length sheets.old }
-    requires other { other + sides.w * sides.h ≤ length sheets.old }
-    requires target { to + sides.w * sides.h ≤ length sheets.old }
+    requires one { one + sides.w * sides.h ≤ length sheets.now }
+    requires other { other + sides.w * sides.h ≤ length sheets.now }
     requires planes { length planes.old ≡ 2 * (sides.w * sides.h) }
-    ensures made { map L.height sheets.new ≡ overwritten to
-        (made_from (T.makes transform.now) sides.w sides.h one other (map L.height sheets.old))
-        (map L.height sheets.old) }
-    ensures reports { result ≡ made_from (T.report_of transform.now) sides.w sides.h one other (map L.height sheets.old) }
-    ensures length { length (made_from (T.makes transform.now) sides.w sides.h one other (map L.height sheets.old))
-        ≡ sides.w * sides.h }
+    ensures made { cells_from 0 (sides.w * sides.h) (map L.height planes.new)
+        ≡ made_from (T.makes transform.now) sides.w sides.h one other (map L.height sheets.now) }
+    ensures reports { result ≡ made_from (T.report_of transform.now) sides.w sides.h one other (map L.height sheets.now) }
 {
     let cells = sides.cells();
     let (plane, spare) = planes.split_at_mut(cells);
-    let report = transform
+    transform
         .transform(
             part(sheets, one, cells),
             part(sheets, other, cells),
@@ -57,7 +52,5 @@ pub(crate) fn make_place<T: Transform, L: Level>(
             sides.w,
             sides.h,
         )
-        .unwrap();
-    store(sheets, to, plane);
-    report
+        .unwrap()
 }

@@ -1,9 +1,9 @@
 // What the calls on sheets stand on: the sizes of a rack, the sheet in a place, and how a place is filled with a sheet that is made.
-ghost use Rattle.std.specs.Prelude.{◌≡◌, ◌*◌, ◌≤◌, map, length, Some, None, MatchResult};
-ghost use Rattle.bench.specs.Calls.{MakesSheet, sheet_refusal};
-ghost use Rattle.bench.specs.Model.{rack_outline, rack_state};
+ghost use Rattle.std.specs.Prelude.{◌≡◌, ◌*◌, ◌≤◌, true, map, length, is_some, Some, None, MatchResult};
+ghost use Rattle.bench.specs.Calls.{MakesInPlane, MakesSheet, SameMemory, sheet_refusal, stored};
+ghost use Rattle.bench.specs.Model.{is_place, overwritten, place_start, places_of, plane_of, rack_outline, rack_state};
 
-use crate::planes::{make_place, part};
+use crate::planes::{make_plane, part, store};
 use crate::rack::Rack;
 use levels::level::Level;
 use limits::{Fault, Sides};
@@ -36,6 +36,68 @@ impl<L: Level> Rack<'_, L> {
         Ok(part(self.memory, (place - 1) * cells, cells))
     }
 
+    /// The first working plane: w × h levels, where `make_in_plane` leaves the sheet that it makes; no levels where the rack was
+    /// opened with wrong sizes.
+    pub fn plane(&self) -> &[L]
+        ensures value { result.now ≡ plane_of self.now.marks self.now.memory.now }
+        ensures sides { length result.now ≡ (rack_outline self.now).w * (rack_outline self.now).h }
+    {
+        let cells = self.marks.cells();
+        part(self.memory, self.marks.places * cells, cells)
+    }
+
+    /// Makes in the first working plane what a transformation makes of the sheets in the places `one` and `other`, and tells what
+    /// the transformation reports. The two may be the same, and no place changes.
+    /// Refuses a place that the rack has not (5), no visit open (31), and a place that is empty (34); a refusal changes nothing.
+    /// The second working plane is left as it may be.
+    pub fn make_in_plane<T: Transform>(
+        &mut self,
+        transform: &T,
+        one: usize,
+        other: usize,
+    ) -> Result<T::Report, Fault>
+        ensures { MakesInPlane L.height (T.makes transform.now) (T.report_of transform.now) self.old self.new one other result }
+    {
+        let marks = &self.marks;
+        marks.refuse_sources(one, other)?;
+        let cells = marks.cells();
+        let sides = Sides {
+            w: marks.w,
+            h: marks.h,
+        };
+        let front = marks.places * cells;
+        let memory = &mut *self.memory;
+        let (sheets, planes) = memory.split_at_mut(front);
+        Ok(make_plane(
+            transform,
+            sheets,
+            planes,
+            sides,
+            (one - 1) * cells,
+            (other - 1) * cells,
+        ))
+    }
+
+    // Fills a place with the sheet in the first working plane.
+    fn keep_plane(&mut self, to: usize)
+        requires place { is_place self.old.marks.places to ≡ true }
+        requires visit { is_some self.old.marks.visit ≡ true }
+        ensures steps { rack_state L.height self.new
+            ≡ stored (rack_state L.height self.old) to (plane_of self.old.marks (map L.height self.old.memory.now)) }
+        ensures memory { places_of self.old.marks (map L.height self.new.memory.now)
+            ≡ overwritten (place_start (self.old.marks.w * self.old.marks.h) to)
+            (plane_of self.old.marks (map L.height self.old.memory.now))
+            (places_of self.old.marks (map L.height self.old.memory.now)) }
+        ensures lent { SameMemory self.old.memory self.new.memory }
+    {
+        let cells = self.marks.cells();
+        let front = self.marks.places * cells;
+        let memory = &mut *self.memory;
+        let (sheets, planes) = memory.split_at_mut(front);
+        store(sheets, (to - 1) * cells, part(planes, 0, cells));
+        self.marks.fill(to, ());
+    }
+
     /// Fills the place `to` with what a transformation makes of the sheets in the places `one` and `other`, and tells what the
     /// transformation reports. Any of the three may be the same; the sources are read first.
     /// Refuses a place that the rack has not (5), no visit open (31), and a source place that is empty (34); a refusal changes
@@ -49,26 +111,12 @@ impl<L: Level> Rack<'_, L> {
     ) -> Result<T::Report, Fault>
         ensures { MakesSheet L.height (T.makes transform.now) (T.report_of transform.now) self.old self.new one other to result }
     {
-        let marks = &self.marks;
-        marks.refuse_make(one, other, to)?;
-        let cells = marks.cells();
-        let sides = Sides {
-            w: marks.w,
-            h: marks.h,
-        };
-        let front = marks.places * cells;
-        let memory = &mut *self.memory;
-        let (sheets, planes) = memory.split_at_mut(front);
-        let report = make_place(
-            transform,
-            sheets,
-            planes,
-            sides,
-            (one - 1) * cells,
-            (other - 1) * cells,
-            (to - 1) * cells,
-        );
-        self.marks.fill(to, ());
+        // First, since no fault comes before that of a place: making in a plane refuses the rest.
+        if !self.marks.has_place(to) {
+            return Err(Fault::SheetPlace);
+        }
+        let report = self.make_in_plane(transform, one, other)?;
+        self.keep_plane(to);
         Ok(report)
     }
 }

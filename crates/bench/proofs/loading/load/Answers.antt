@@ -28,4 +28,4 @@ returns-clause-steps g c =
     ap (state_of sheet_held c.fill.new.self) (ap (map height) written ∙ map-overwritten height (place_start (marks.w * marks.h) c.args.place) c.args.picture.now rack.memory.now)
     ∙ stored_state sheet_held marks c.args.place tt (map height c.args.picture.now) (map height rack.memory.now) accepted.1
     (length-map _ _ ∙ accepted.0) (rw length-map (rack_room rack c.args.place accepted.1)) c.fill.new.self filled.sizes.w filled.sizes.h filled.sizes.places filled.visit filled.filled
-    ∙ accepted_leaves _ _ _ (passed ∙ heights)
+    ∙ accepted_leaves _ tt tt _ _ (passed ∙ heights)

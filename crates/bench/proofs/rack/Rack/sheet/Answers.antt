@@ -29,6 +29,6 @@ returns g c =
         long,
         some.0,
         omega (arith, long, mul-le 1 1 marks.w marks.h some.0 some.1),
-        omega (arith, long, mul-le marks.w marks.h 1024 1024 marks.wide marks.high),
+        omega (arith, long, mul-le marks.w marks.h 1024 1024 (omega (arith, marks.wide)) (omega (arith, marks.high))),
       );
     }

@@ -1,11 +1,11 @@
-use Rattle.std.proofs.Common.{◌≡◌, ◌*◌, Ok, map, length, sym, ap, ◌∙◌, arith}
-use Rattle.std.proofs.lemmas.List.{length-map, length-take, length-drop}
+use Rattle.std.proofs.Common.{◌≡◌, ◌*◌, Ok, map, length, take, sym, ap, ◌∙◌, arith}
+use Rattle.std.proofs.lemmas.List.{length-map, length-take, length-drop, map-append, take_at}
 use Rattle.std.proofs.lemmas.Result.{MatchResult-at_ok}
 use Rattle.limits.specs.Faults.{tells}
 use Rattle.bench.specs.Calls.{made_from}
-use Rattle.bench.specs.Model.{cells_from, overwritten}
-use Rattle.bench.proofs.Memory.{heights_of_cells, map-overwritten, lists_accepted}
-use Rattle.bench.proofs.planes.make_place.Goals as goal
+use Rattle.bench.specs.Model.{cells_from}
+use Rattle.bench.proofs.Memory.{heights_of_cells, lists_accepted}
+use Rattle.bench.proofs.planes.make_plane.Goals as goal
 
 pub returns : goal.returns
 returns g c =
@@ -31,9 +31,11 @@ returns g c =
     MatchResult-at_ok (λ _. map height c.transform.new.to ≡ makes sides.w sides.h (map height c.part.result.now) (map height c.part-2.result.now)) _ _
     answer c.transform.ensures.memory
     ∙ (λ i. makes sides.w sides.h (one i) (other i)) in
-    let same : Ok c.unwrap-report.result ≡ Ok (reports sides.w sides.h (map height c.part.result.now) (map height c.part-2.result.now)) = sym c.unwrap-report.ensures ∙ answer in
+    let same : Ok c.unwrap.result ≡ Ok (reports sides.w sides.h (map height c.part.result.now) (map height c.part-2.result.now)) = sym c.unwrap.ensures ∙ answer in
     record {
-      made = ap (map height) c.store.ensures ∙ map-overwritten height c.args.to _ sheets ∙ ap (λ new. overwritten c.args.to new (map height sheets)) made;
-      reports = (let e : c.unwrap-report.result ≡ reports sides.w sides.h (map height c.part.result.now) (map height c.part-2.result.now) = cc in e) ∙ (λ i. reports sides.w sides.h (one i) (other i));
-      length = sym (ap length made) ∙ length-map _ _ ∙ c.transform.auto.to ∙ plane_long;
+      made =
+          ap (take cells) (map-append height c.transform.new.to c.transform.new.spare)
+          ∙ take_at _ _ cells (length-map _ _ ∙ c.transform.auto.to ∙ plane_long)
+          ∙ made;
+      reports = (let e : c.unwrap.result ≡ reports sides.w sides.h (map height c.part.result.now) (map height c.part-2.result.now) = cc in e) ∙ (λ i. reports sides.w sides.h (one i) (other i));
     }

@@ -1,2 +1,4 @@
 pub mod Made
+pub mod ByElement
+pub mod OfSize
 pub mod Queries

@@ -1,4 +1,4 @@
--- The calls that tell or copy out what is on a bench: what each refuses, in order, and what it tells. Assumes nothing.
+-- The calls that tell of a sheet on a bench or copy it out: what each refuses, in order, and what it tells. Assumes nothing.
 use Rattle.std.specs.Prelude.{◌≡◌, ℕ, ◌+◌, ◌*◌, ◌/◌, ◌%◌, ◌<◌, ◌≤◌, not, ◌&&◌, ◌≢◌, List, length, Ok, Err, Option, Result, ◌==◌, nat_le, slice_index}
 use Rattle.limits.specs.declared.fault.Fault.{Fault}
 use Rattle.limits.specs.declared.fault.Fault.TheVariants.{Length, SheetPlace, FactorOrHeight}
@@ -9,19 +9,16 @@ use Rattle.morphology.specs.Sheets.{area}
 use Rattle.morphology.specs.declared.extremum.Extremum.{Extremum}
 use Rattle.morphology.specs.declared.extremum.Extremum.TheVariants.{Minimum, Maximum}
 use Rattle.bench.specs.Model.{Outline, State, is_place, sheet_of}
-use Rattle.bench.specs.Calls.{sheet_refusal, tally_refusal}
+use Rattle.bench.specs.Calls.{sheet_refusal}
 use Rattle.calls.specs.declared.spot.Spot.{Spot}
 
 -- area: the sum of the heights
 abbrev pub area_answer : State (List ℕ) → ℕ → Result ℕ Fault
 area_answer s k = tells (sheet_refusal s.outline k) (area (sheet_of s k))
 
--- show: the list's length, then what any call refuses that reads the sheet or the tally
+-- show: the list's length, then what any call refuses that reads the sheet
 abbrev pub show_sheet_refusal : Outline → ℕ → ℕ → Option Fault
 show_sheet_refusal o k len = first (not (len == o.w * o.h)) Length (sheet_refusal o k)
-
-abbrev pub show_tally_refusal : Outline → ℕ → ℕ → Option Fault
-show_tally_refusal o k len = first (not (len == o.w * o.h)) Length (tally_refusal o k)
 
 -- cut: the list's length, then the place, then the height, 1 to the kind's top, then the visit and the sheet
 abbrev pub cut_refusal : ℕ → Outline → ℕ → ℕ → ℕ → Option Fault

@@ -1,11 +1,13 @@
-// The calls on the sheets and tallies of a bench: those that make a sheet, and those that tell or copy out what is there.
+// The calls on the sheets of a bench: those that make a sheet, and those that tell or copy out what is there.
 #![tactic(auto)]
 
 mod cells;
 mod made;
+mod openings;
 mod queries;
 mod spot;
 
 pub use made::{dilate, erode, join, meet};
-pub use queries::{area, cut, show_sheet, show_tally, span};
+pub use openings::{in_turn, open, regrow};
+pub use queries::{area, cut, show_sheet, span};
 pub use spot::Spot;

@@ -1,14 +1,14 @@
-// The calls that tell or copy out what is on a bench, which stays as it is.
-ghost use Rattle.std.specs.Prelude.{◌≡◌, map, length, None, Some, MatchResult};
-ghost use Rattle.bench.specs.Model.{rack_outline, rack_state, sheet_of, slate_outline, slate_state};
-ghost use Rattle.calls.specs.Queries.{area_answer, cut_refusal, show_sheet_refusal, show_tally_refusal, span_answer, spots_told, SpotsAreFirstExtremes};
+// The calls that tell of a sheet on a bench or copy it out; the bench stays as it is.
+ghost use Rattle.std.specs.Prelude.{◌≡◌, map, length, Some, MatchResult};
+ghost use Rattle.bench.specs.Model.{rack_outline, rack_state, sheet_of};
+ghost use Rattle.calls.specs.Queries.{area_answer, cut_refusal, show_sheet_refusal, span_answer, spots_told, SpotsAreFirstExtremes};
 ghost use Rattle.levels.specs.Mask.{mask_height};
 ghost use Rattle.limits.specs.Faults.{told};
 ghost use Rattle.morphology.specs.Cells.{cut};
 
 use crate::cells::{area_of, spot_of, write_mask};
 use crate::spot::Spot;
-use bench::{Rack, Slate};
+use bench::Rack;
 use levels::Mask;
 use levels::level::Level;
 use limits::Fault;
@@ -36,7 +36,7 @@ pub fn span<L: Level>(rack: &Rack<'_, L>, place: usize) -> Result<(Spot<L>, Spot
     Ok((least, greatest))
 }
 
-// The names of the three calls below are the users', and each tries the length of its own list first, by the order of refusals.
+// The names of the two calls below are the users', and each tries the length of its own list first, by the order of refusals.
 /// Copies the sheet in a place to a list of w × h levels.
 /// Refuses a list of another length (4), a place that the rack has not (5), no visit open (31), and a place that is
 /// empty (34), and then leaves the list as it was.
@@ -53,26 +53,6 @@ pub fn show_sheet<L: Level>(rack: &Rack<'_, L>, place: usize, list: &mut [L]) ->
     let sheet = rack.sheet(place)?;
     list.copy_from_slice(sheet);
     Ok(())
-}
-
-/// Copies the tally in a place to a list of w × h numbers, and tells its weight.
-/// Refuses a list of another length (4), a place that the slate has not (6), no visit open on the slate (31), and a place
-/// that is empty (35), and then leaves the list as it was.
-pub fn show_tally(slate: &Slate<'_>, place: usize, list: &mut [i32]) -> Result<u16, Fault>
-    ensures answers { MatchResult result
-        (λ _. show_tally_refusal (slate_outline slate.now) place (length list.old) ≡ None)
-        (λ fault. show_tally_refusal (slate_outline slate.now) place (length list.old) ≡ Some fault) }
-    ensures list { MatchResult result
-        (λ weight. (slate_state slate.now).content place ≡ Some (record { cells = list.new; weight = weight }))
-        (λ _. list.new ≡ list.old) }
-{
-    let (w, h, _) = slate.sizes();
-    if list.len() != w * h {
-        return Err(Fault::Length);
-    }
-    let (cells, weight) = slate.tally(place)?;
-    list.copy_from_slice(cells);
-    Ok(weight)
 }
 
 /// Writes the mask at a height, 1 to the kind's top, of the sheet in a place to a list of w × h mask levels: yes exactly

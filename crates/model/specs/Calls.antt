@@ -1,7 +1,7 @@
 -- The calls on a bench, by their arguments, and what a call may tell. Assumes nothing.
 use Rattle.std.specs.Prelude.{ℕ, List, ℤ}
 use Rattle.elements.specs.declared.element.Element.{Element}
-use Rattle.bench.specs.Model.{Tally}
+use Rattle.weights.specs.Weights.{Tally}
 
 -- A call on a bench, whose pictures are lists of X. Any of its numbers may be wrong. A slip counts by the flat on it, and a list to
 -- be written by its length.

@@ -12,7 +12,7 @@ use Rattle.limits.specs.Faults.{fault_number, refusal_number}
 use Rattle.bench.specs.Calls.{begin_refusal, end_refusal}
 use Rattle.bench.specs.Model.{Outline, visit_to}
 use Rattle.model.specs.Calls.{Call, Begin, End, Load, Erode, Dilate, Open, Close, Meet, Join, Regrow, Edge, Peak, Valley, Differ, Add, Scale, Area, Span, Spectrum, Skeleton, ShowSheet, ShowTally, Told, NothingTold, SlipTold, RoundsTold, AreaTold, SpanTold, SpectrumTold, SkeletonTold, SheetTold, TallyTold}
-use Rattle.model.specs.TallyCalls.{difference_refusal}
+use Rattle.bench.specs.TallyCalls.{difference_refusal}
 
 -- what is told, as a list of numbers; a refusal as its number, negative
 abbrev told_numbers : Told → List ℤ
@@ -115,6 +115,7 @@ accepted =
     ∷ (Area 3, pos 9 ∷ []) ∷ (Span 3, pos 0 ∷ pos 0 ∷ pos 4 ∷ pos 1 ∷ pos 0 ∷ pos 5 ∷ [])
     ∷ (Differ 1 2 1, []) ∷ (ShowTally 1 2, pos 1 ∷ neg_ℤ (pos 1) ∷ pos 4 ∷ []) ∷ (Add 1 1 2, [])
     ∷ (ShowTally 2 2, pos 2 ∷ neg_ℤ (pos 2) ∷ pos 8 ∷ [])
+    ∷ (Add 1 2 2, []) ∷ (ShowTally 2 2, pos 3 ∷ neg_ℤ (pos 3) ∷ pos 12 ∷ [])
     ∷ (Scale (neg_ℤ (pos 100)) 1 2, []) ∷ (ShowTally 2 2, pos 100 ∷ pos 100 ∷ neg_ℤ (pos 400) ∷ [])
     ∷ (Scale (pos 10) 2 2, []) ∷ (ShowTally 2 2, pos 1000 ∷ pos 1000 ∷ neg_ℤ (pos 4000) ∷ [])
     ∷ (Add 2 1 1, refused 36) ∷ (Add 1 2 1, refused 36) ∷ (Scale (neg_ℤ (pos 2)) 2 1, refused 36)

@@ -5,11 +5,13 @@ use Rattle.limits.specs.declared.fault.Fault.{Fault}
 use Rattle.limits.specs.declared.fault.Fault.TheVariants.{EmptySheet, SheetPlace, Unequal, VisitOpen}
 use Rattle.std.specs.Prelude.{◌==◌}
 use Rattle.model.specs.ListCalls.{depth_refusal}
-use Rattle.model.specs.SheetCalls.{of_size_refusal}
-use Rattle.model.specs.TallyCalls.{add_refusal, difference_refusal, scale_refusal}
 use Rattle.limits.specs.Faults.{first, tells, told}
 use Rattle.limits.specs.Sizes.{lawful_flat, lawful_size, lawful_factor}
-use Rattle.bench.specs.Model.{Outline, Tally, flat_of, is_place}
+use Rattle.bench.specs.Model.{Outline, flat_of, is_place}
+use Rattle.bench.specs.TallyCalls.{combine_refusal, difference_refusal}
+use Rattle.calls.specs.OfSize.{of_size_refusal}
+use Rattle.tallies.specs.Scaling.{scale_refusal}
+use Rattle.weights.specs.Weights.{Tally}
 use Rattle.bench.specs.declared.visit.Visit.{Visit}
 use Rattle.bench.specs.Calls.{begin_refusal, equal_benches, make_refusal, same_flat}
 use Rattle.bench.proofs.Refusals.{make_accepted, source_accepted}
@@ -63,7 +65,7 @@ difference_sources rack slate one other to h =
     (record { visit = visit.0; one_filled = both.0; other_filled = both.1 }, open_alike rack.visit slate.visit (and_parts _ _ equal.0).1 visit.0)
 
 -- a tally is made on an open slate, and is not too heavy
-pub add_light : (o : Outline) (sum : Tally) (one other to : ℕ) → add_refusal o sum one other to ≡ None → (is_some o.visit ≡ true) × (sum.weight ≤ 1000)
+pub add_light : (o : Outline) (sum : Tally) (one other to : ℕ) → combine_refusal o sum one other to ≡ None → (is_some o.visit ≡ true) × (sum.weight ≤ 1000)
 add_light o sum one other to h =
     let places = passed (is_place o.places one && is_place o.places other && is_place o.places to) _ _ h in
     let visit = passed (is_some o.visit) _ _ places.1 in

@@ -11,11 +11,11 @@ use Rattle.morphology.specs.declared.extremum.Extremum.TheVariants.{Minimum, Max
 use Rattle.morphology.specs.declared.operation.Operation.TheVariants.{Erosion, Dilation}
 use Rattle.morphology.specs.Cells.{cut, extreme_of, joined, met}
 use Rattle.morphology.specs.Sheets.{area}
-use Rattle.bench.specs.Model.{Tally, sheet_of, tally_of}
+use Rattle.bench.specs.Model.{sheet_of, tally_of}
 use Rattle.bench.specs.Calls.{Making, begin_refusal, end_refusal, load_refusal, made_of, make_refusal, sheet_refusal}
 use Rattle.calls.specs.Made.{by_element}
 use Rattle.bench.proofs.Refusals.{load_accepted}
-use Rattle.calls.specs.Queries.{show_sheet_refusal, show_tally_refusal}
+use Rattle.calls.specs.Queries.{show_sheet_refusal}
 use Rattle.elements.specs.Elements.{offsets}
 use Rattle.laws.specs.Sums.{ListSum, greatest_to, sum_to}
 use Rattle.laws.proofs.ElementLaws.{erosion_and_dilation_are_pair}
@@ -27,12 +27,16 @@ use Rattle.laws.specs.Sums.{HeightsAtMost}
 use Rattle.laws.proofs.Sums.{list_fold_added, list_fold_kept, list_fold_same, over_same}
 use Rattle.laws.proofs.SumsOfCuts.{area_over_cuts, extreme_over_cuts, swap_int_sums}
 use Rattle.model.specs.Calls.{Call, Begin, End, Load, Erode, Dilate, Open, Close, Meet, Join, Regrow, Edge, Peak, Valley, Differ, Add, Scale, Area, Span, Spectrum, Skeleton, ShowSheet, ShowTally, SheetTold}
-use Rattle.model.specs.ByElement.{close, closing_by, opening_by, reconstruction_by, rounds_by, shrink, skeleton_by, spectrum_by, swell}
+use Rattle.model.specs.ByElement.{skeleton_by, spectrum_by}
 use Rattle.model.specs.ListCalls.{skeleton_refusal, spectrum_refusal}
-use Rattle.model.specs.SheetCalls.{of_size_refusal}
 use Rattle.model.specs.Steps.{Bench}
-use Rattle.model.specs.TallyCalls.{add_refusal, difference_refusal, scale_refusal}
-use Rattle.model.specs.Weights.{multiple, sum_of_tallies, WithinWeight}
+use Rattle.bench.specs.TallyCalls.{combine_refusal, difference_refusal}
+use Rattle.calls.specs.ByElement.{opening_by, reconstruction_by, rounds_by, shrink, swell}
+use Rattle.calls.specs.OfSize.{of_size_refusal}
+use Rattle.closings.specs.ByElement.{close, closing_by}
+use Rattle.tallies.specs.Scaling.{scale_refusal}
+use Rattle.tallies.specs.Showing.{show_tally_refusal}
+use Rattle.weights.specs.Weights.{Tally, WithinWeight, multiple, sum_of_tallies}
 use Rattle.runs.proofs.Parts.{extreme_of_sheet, list_of, rounds_of, difference_of, leaves, refusal, the_first, the_second, told_by, with_sheet, with_tally}
 use Rattle.runs.specs.Sums.{BenchSum, TallySum, ToldSum}
 use Rattle.runs.specs.Theorems.{cut_at, in_heights}
@@ -85,7 +89,7 @@ module _ {X : Type 0} (height : X → ℕ) (top : ℕ) (bounded : (x : X) → he
   refused_alike (Peak e from to) a low = λ i. difference_refusal (g.sum.rack a low i) (g.sum.slate a low i) from from to
   refused_alike (Valley e from to) a low = λ i. difference_refusal (g.sum.rack a low i) (g.sum.slate a low i) from from to
   refused_alike (Differ one other to) a low = λ i. difference_refusal (g.sum.rack a low i) (g.sum.slate a low i) one other to
-  refused_alike (Add one other to) a low = λ i. add_refusal (g.sum.slate a low i) (record { cells = []; weight = (g.sum.tallies one).weight a low i + (g.sum.tallies other).weight a low i }) one other to
+  refused_alike (Add one other to) a low = λ i. combine_refusal (g.sum.slate a low i) (record { cells = []; weight = (g.sum.tallies one).weight a low i + (g.sum.tallies other).weight a low i }) one other to
   refused_alike (Scale factor from to) a low = λ i. scale_refusal (g.sum.slate a low i) (record { cells = []; weight = unsigned_abs factor * (g.sum.tallies from).weight a low i }) factor from to
   refused_alike (Area place) a low = ap (λ o. sheet_refusal o place) (g.sum.rack a low)
   refused_alike (Span place) a low = ap (λ o. sheet_refusal o place) (g.sum.rack a low)

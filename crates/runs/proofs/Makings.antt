@@ -14,14 +14,16 @@ use Rattle.laws.specs.Maps.{FlatOperator}
 use Rattle.operators.specs.Openings.{opening}
 use Rattle.laws.specs.Reconstruction.{ReconstructionLaws}
 use Rattle.laws.specs.Sums.{HeightsAtMost}
-use Rattle.laws.proofs.Cells.{cut-joined, cut-met, length-cell_by_cell}
+use Rattle.laws.proofs.Cells.{cut-joined, cut-met}
+use Rattle.morphology.proofs.TakenTogether.{length-cell_by_cell}
 use Rattle.laws.proofs.Closings.{pairs_close}
 use Rattle.laws.proofs.Cuts.{cuts_alike, sheet_topped}
 use Rattle.laws.proofs.ElementLaws.{dilation_and_erosion_inside_close, erosion_and_dilation_are_pair}
 use Rattle.laws.proofs.Maps.{flat_same}
 use Rattle.laws.proofs.Openings.{pairs_open}
 use Rattle.laws.proofs.Reconstruction.{pairs_reconstruct}
-use Rattle.model.specs.ByElement.{closing_by, opening_by, reconstruction_by, shrink, close, swell}
+use Rattle.calls.specs.ByElement.{opening_by, reconstruction_by, shrink, swell}
+use Rattle.closings.specs.ByElement.{close, closing_by}
 use Rattle.runs.proofs.Parts.{the_first, the_second}
 
 -- sheets of any sides make sheets of these sides, and cuts make the cut

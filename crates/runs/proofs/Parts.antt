@@ -10,18 +10,22 @@ use Rattle.morphology.specs.declared.extremum.Extremum.TheVariants.{Minimum, Max
 use Rattle.morphology.specs.declared.operation.Operation.TheVariants.{Erosion, Dilation}
 use Rattle.morphology.specs.Cells.{joined, met}
 use Rattle.morphology.specs.Sheets.{area}
-use Rattle.bench.specs.Model.{State, Tally, sheet_of, tally_of}
+use Rattle.bench.specs.Model.{State, sheet_of, tally_of}
 use Rattle.bench.specs.Calls.{Making, begin_refusal, end_refusal, ended, load_refusal, made_of, make_refusal, sheet_refusal, stored, with_visit}
 use Rattle.calls.specs.Made.{by_element}
-use Rattle.calls.specs.Queries.{extreme_spot, show_sheet_refusal, show_tally_refusal}
+use Rattle.calls.specs.Queries.{extreme_spot, show_sheet_refusal}
 use Rattle.operators.specs.Tallies.{differed}
-use Rattle.model.specs.ByElement.{closing_by, opening_by, reconstruction_by, rounds_by, skeleton_by, spectrum_by}
+use Rattle.model.specs.ByElement.{skeleton_by, spectrum_by}
 use Rattle.model.specs.Calls.{Call, Begin, End, Load, Erode, Dilate, Open, Close, Meet, Join, Regrow, Edge, Peak, Valley, Differ, Add, Scale, Area, Span, Spectrum, Skeleton, ShowSheet, ShowTally, Told, NothingTold, SlipTold, RoundsTold, AreaTold, SpanTold, SpectrumTold, SkeletonTold, SheetTold, TallyTold}
 use Rattle.model.specs.ListCalls.{skeleton_refusal, spectrum_refusal}
-use Rattle.model.specs.SheetCalls.{of_size_refusal}
 use Rattle.model.specs.Steps.{Bench, answer, step, telling, with_rack, with_slate}
-use Rattle.model.specs.TallyCalls.{add_refusal, difference_refusal, scale_refusal}
-use Rattle.model.specs.Weights.{difference, multiple, sum_of_tallies}
+use Rattle.bench.specs.TallyCalls.{combine_refusal, difference_refusal}
+use Rattle.calls.specs.ByElement.{opening_by, reconstruction_by, rounds_by}
+use Rattle.calls.specs.OfSize.{of_size_refusal}
+use Rattle.closings.specs.ByElement.{closing_by}
+use Rattle.tallies.specs.Scaling.{scale_refusal}
+use Rattle.tallies.specs.Showing.{show_tally_refusal}
+use Rattle.weights.specs.Weights.{Tally, difference, multiple, sum_of_tallies}
 
 -- of two sheets, the one and the other
 abbrev pub the_first : Making
@@ -56,7 +60,7 @@ refusal b (Edge e from to) = difference_refusal b.rack.outline b.slate.outline f
 refusal b (Peak e from to) = difference_refusal b.rack.outline b.slate.outline from from to
 refusal b (Valley e from to) = difference_refusal b.rack.outline b.slate.outline from from to
 refusal b (Differ one other to) = difference_refusal b.rack.outline b.slate.outline one other to
-refusal b (Add one other to) = add_refusal b.slate.outline (sum_of_tallies (tally_of b.slate one) (tally_of b.slate other)) one other to
+refusal b (Add one other to) = combine_refusal b.slate.outline (sum_of_tallies (tally_of b.slate one) (tally_of b.slate other)) one other to
 refusal b (Scale factor from to) = scale_refusal b.slate.outline (multiple factor (tally_of b.slate from)) factor from to
 refusal b (Area place) = sheet_refusal b.rack.outline place
 refusal b (Span place) = sheet_refusal b.rack.outline place

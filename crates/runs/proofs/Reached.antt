@@ -1,9 +1,9 @@
 -- What holds of every bench that a run reaches: the sizes it opened with, sheets of its sides and below the top, tallies within their
 -- weights, and, where no visit is open, the state that it opened with. Assumes nothing.
-use Rattle.model.specs.Weights.{WithinWeight}
 use Rattle.std.proofs.Common.{Bool, false, cond, eqb, unwrap_or, ◌≡◌, ℕ, ◌*◌, ◌≤◌, true, List, [], ◌∷◌, zero, suc, map, length, is_some, Some, None, Option, sym, refl, ap, arith}
 use Rattle.std.proofs.lemmas.Bool.{false≢true}
-use Rattle.bench.specs.Model.{State, Tally, tally_of, visit_to}
+use Rattle.bench.specs.Model.{State, tally_of, visit_to}
+use Rattle.weights.specs.Weights.{Tally, WithinWeight}
 use Rattle.bench.specs.declared.visit.Visit.{Visit}
 use Rattle.bench.specs.Calls.{ended, opened, stored, with_visit}
 use Rattle.laws.specs.Sums.{HeightsAtMost}

@@ -16,7 +16,8 @@ use Rattle.laws.proofs.ElementLaws.{erosion_and_dilation_are_pair}
 use Rattle.laws.proofs.Maps.{flat_times, flat_topped}
 use Rattle.runs.proofs.Calls.{skeletons_of, spectra_of}
 use Rattle.model.specs.Calls.{Begin, Call, Skeleton, SkeletonTold, SlipTold, Spectrum, SpectrumTold}
-use Rattle.model.specs.ByElement.{shrink, close, swell}
+use Rattle.calls.specs.ByElement.{shrink, swell}
+use Rattle.closings.specs.ByElement.{close}
 use Rattle.model.specs.Steps.{Bench, BenchSizes, after, answer, bench_opened}
 use Rattle.runs.proofs.Parts.{answer_parts, refusal, told_by}
 use Rattle.runs.specs.Theorems.{Forgetting, MaskSums, OpenedAlike, Restoring, RunLaws, SkeletonsTellSheets, SpectraTellAreas, in_heights, bench_after, TalliesWithinWeights, FilledPlaces}

@@ -1,11 +1,11 @@
 -- Whole runs on a bench and on those of the masks, from benches opened alike. Assumes nothing.
-use Rattle.model.specs.Weights.{WithinWeight}
 use Rattle.std.proofs.Common.{◌≡◌, ℕ, ◌≤◌, true, ◌&&◌, List, [], ◌∷◌, map, Some, None, Option, sym, refl, ap, ◌∙◌, subst, leb, arith, Result, is_some}
 use Rattle.std.proofs.lemmas.Bool.{and_parts, leb-true}
 use Rattle.limits.specs.declared.fault.Fault.{Fault}
 use Rattle.limits.specs.Faults.{tells, unless}
 use Rattle.limits.specs.Sizes.{lawful_side, sizes_refusal}
-use Rattle.bench.specs.Model.{State, Tally, is_place, tally_of}
+use Rattle.bench.specs.Model.{State, is_place, tally_of}
+use Rattle.weights.specs.Weights.{Tally, WithinWeight}
 use Rattle.bench.specs.Calls.{opened}
 use Rattle.model.specs.Calls.{Call, Told}
 use Rattle.model.specs.Steps.{Bench, BenchSizes, after, answer, bench_opened, step}

@@ -2,7 +2,8 @@
 use Rattle.std.proofs.Common.{◌≡◌, ℕ, ◌*◌, ◌≤◌, Bool, true, false, cond, eqb, List, [], length, Some, None, pos, ◌+ℤ◌, unwrap_or, sym, refl, ap, ◌∙◌, arith}
 use Rattle.std.proofs.lemmas.Bool.{false≢true}
 use Rattle.morphology.specs.Cells.{cut}
-use Rattle.bench.specs.Model.{State, Tally, sheet_of, tally_of}
+use Rattle.bench.specs.Model.{State, sheet_of, tally_of}
+use Rattle.weights.specs.Weights.{Tally, no_tally}
 use Rattle.bench.specs.Calls.{Making, ended, made_of, opened, stored, with_visit}
 use Rattle.laws.specs.Sums.{HeightsAtMost}
 use Rattle.operators.specs.Tallies.{differed}
@@ -33,9 +34,6 @@ pub opened_held : (top w h places : ℕ) → SheetsHeld top (opened w h places)
 opened_held top w h places = record { sized = λ k filled. absurd (false≢true filled); topped = λ k p. omega arith }
 
 -- the tally of no cells, beside those of the masks
-abbrev no_tally : Tally
-no_tally = record { cells = []; weight = 0 }
-
 no_tally_sum : (top : ℕ) → TallySum top no_tally (λ a. no_tally)
 no_tally_sum top = record { weight = λ a low. refl; cells = list_fold_none ◌+ℤ◌ (pos 0) refl top }
 

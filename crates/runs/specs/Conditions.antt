@@ -5,11 +5,11 @@ use Rattle.limits.specs.declared.fault.Fault.{Fault}
 use Rattle.limits.specs.declared.fault.Fault.TheVariants.{Side, Places, Memory, Length, SheetPlace, TallyPlace, SizeOrDepth, ListLength, FactorOrHeight, BuiltIn, Flat, RestoreCell, NoVisit, VisitOpen, OtherFlat, EmptySheet, EmptyTally, Weight, Unequal}
 use Rattle.limits.specs.Faults.{fault_number}
 use Rattle.limits.specs.Sizes.{lawful_flat, lawful_size, lawful_factor}
-use Rattle.bench.specs.Model.{Outline, State, Tally, flat_of, is_place, tally_of}
+use Rattle.bench.specs.Model.{Outline, State, flat_of, is_place, tally_of}
 use Rattle.bench.specs.declared.visit.Visit.{Visit}
 use Rattle.bench.specs.Calls.{equal_benches, same_flat}
 use Rattle.model.specs.Calls.{Call, Told, Begin, End, Load, Erode, Dilate, Open, Close, Meet, Join, Regrow, Edge, Peak, Valley, Differ, Add, Scale, Area, Span, Spectrum, Skeleton, ShowSheet, ShowTally}
-use Rattle.model.specs.Weights.{lawful_weight, multiple, sum_of_tallies}
+use Rattle.weights.specs.Weights.{Tally, lawful_weight, multiple, sum_of_tallies}
 use Rattle.model.specs.Steps.{Bench, answer, step}
 
 -- the sheet places that a call reads, and those that it fills

@@ -2,7 +2,8 @@
 use Rattle.std.specs.Prelude.{◌≡◌, ℕ, ◌≤◌, List, Ok, Err, Result}
 use Rattle.limits.specs.declared.fault.Fault.{Fault}
 use Rattle.morphology.specs.Cells.{cut}
-use Rattle.bench.specs.Model.{Tally, sheet_of, tally_of}
+use Rattle.bench.specs.Model.{sheet_of, tally_of}
+use Rattle.weights.specs.Weights.{Tally}
 use Rattle.laws.specs.Sums.{IntListSum, ListSum, greatest_to, sum_to}
 use Rattle.model.specs.Calls.{Told, NothingTold, SlipTold, RoundsTold, AreaTold, SpanTold, SpectrumTold, SkeletonTold, SheetTold, TallyTold}
 use Rattle.model.specs.Steps.{Bench}

@@ -8,9 +8,9 @@ use Rattle.bench.specs.Model.{Outline, sheet_of, tally_of}
 use Rattle.operators.specs.Openings.{opening}
 use Rattle.operators.specs.Restoring.{answer_list, restore_refusal}
 use Rattle.model.specs.Calls.{Call, Begin, Skeleton, Spectrum, SkeletonTold, SlipTold, SpectrumTold, with_picture}
-use Rattle.model.specs.ByElement.{shrink, swell}
 use Rattle.model.specs.Steps.{Bench, BenchSizes, after, answer, bench_opened}
-use Rattle.model.specs.Weights.{WithinWeight}
+use Rattle.calls.specs.ByElement.{shrink, swell}
+use Rattle.weights.specs.Weights.{WithinWeight}
 use Rattle.runs.specs.Sums.{AnswerSum, BenchSum}
 
 -- the sides and the number of places of a rack or a slate

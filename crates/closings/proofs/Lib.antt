@@ -1,0 +1,3 @@
+pub mod Lowering
+pub mod Sweeping
+pub mod Definitions

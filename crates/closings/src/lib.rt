@@ -1,0 +1,9 @@
+// The erosion that skips what falls outside, and the calls that stand on closings.
+#![tactic(auto)]
+
+mod closing;
+mod inside;
+mod passes;
+
+pub use closing::{close, valley};
+pub use inside::ErosionInside;

@@ -1,6 +1,7 @@
 // Plain Rust versions of what perf/timing.rt.txt times: erosion and dilation of the same sheets by the 3 × 3 square,
-// once in passes, one for each offset over runs of contiguous cells, and once cell by cell; and the meet and join of two
-// sheets, once over a copy of the first by iterators, and once by indices.
+// once in passes, one for each offset over runs of contiguous cells, and once cell by cell; the meet and join of two
+// sheets, once over a copy of the first by iterators, and once by indices; and, in passes alone and where no cells lie between
+// the lists, an opening and a reconstruction in memory that is laid out as a rack's: three places and two working planes.
 // Its arguments are the number of repetitions, the side of the sheet, and how many cells lie between the list that is
 // read and the list that is written.
 use std::time::Instant;
@@ -147,6 +148,59 @@ fn combine<L: Level>(op: Operation, by_index: bool, one: &[L], other: &[L], to: 
     }
 }
 
+// One dilation of a plane met with the upper sheet, by way of the other plane; tells whether a cell rose.
+fn grow<L: Level>(upper: &[L], plane: &mut [L], spare: &mut [L], w: usize, h: usize) -> bool {
+    passes(L::max, plane, spare, w, h, &opposites());
+    for (cell, level) in spare.iter_mut().zip(upper) {
+        *cell = (*cell).min(*level);
+    }
+    if !spare.iter().zip(&*plane).any(|(new, old)| new > old) {
+        return false;
+    }
+    plane.copy_from_slice(spare);
+    true
+}
+
+// The reconstruction of the sheet in place 2 from the marker in place 1, in the first plane and then in place 3: the number of
+// changing rounds.
+#[inline(never)]
+fn regrow<L: Level>(memory: &mut [L], w: usize, h: usize) -> u64 {
+    let (places, planes) = memory.split_at_mut(3 * w * h);
+    let (plane, spare) = planes.split_at_mut(w * h);
+    let (marker, upper) = places[..2 * w * h].split_at(w * h);
+    zipped(L::min, marker, upper, plane);
+    let mut rounds = 0;
+    while grow(upper, plane, spare, w, h) {
+        rounds += 1;
+    }
+    places[2 * w * h..].copy_from_slice(plane);
+    rounds
+}
+
+// Makes of a plane what a map makes of it so many times, two at a time to and fro between the planes.
+fn repeat<L: Level>(map: impl Fn(&[L], &mut [L]), times: usize, plane: &mut [L], spare: &mut [L]) {
+    for _ in 0..times / 2 {
+        map(plane, spare);
+        map(spare, plane);
+    }
+    if times % 2 == 1 {
+        map(plane, spare);
+        plane.copy_from_slice(spare);
+    }
+}
+
+// The opening of size 8 of the sheet in place 1, in the first plane and then in place 3.
+#[inline(never)]
+fn open<L: Level>(memory: &mut [L], w: usize, h: usize) -> u64 {
+    let (places, planes) = memory.split_at_mut(3 * w * h);
+    let (plane, spare) = planes.split_at_mut(w * h);
+    plane.copy_from_slice(&places[..w * h]);
+    repeat(|from, to| passes(L::min, from, to, w, h, &SQUARE), 8, plane, spare);
+    repeat(|from, to| passes(L::max, from, to, w, h, &opposites()), 8, plane, spare);
+    places[2 * w * h..].copy_from_slice(plane);
+    0
+}
+
 // A number that depends on the height of every cell and on its place.
 fn checksum<L: Level>(cells: &[L]) -> u64 {
     cells.iter().fold(0, |sum: u64, &cell| sum.wrapping_mul(31).wrapping_add(cell.height()))
@@ -185,6 +239,34 @@ fn time_kind<L: Level>(kind: &str, task: Task, level: impl Fn(u32) -> L) {
     }
 }
 
+// Repeats a call in the memory of a rack, and prints its best time in nanoseconds and a checksum of what it made and told.
+fn time_call<L: Level>(label: &str, turns: usize, side: usize, memory: &mut [L], run: impl Fn(&mut [L], usize, usize) -> u64) {
+    let mut best = u128::MAX;
+    let mut sum = 0;
+    for _ in 0..turns {
+        let start = Instant::now();
+        let told = run(memory, side, side);
+        best = best.min(start.elapsed().as_nanos());
+        sum = checksum(&memory[2 * side * side..3 * side * side]).wrapping_add(told);
+    }
+    println!("{label} passes {best} {sum:016x}");
+}
+
+// Times the opening of a random sheet, and fewer times a reconstruction that fills a sheet from one corner: its upper sheet is
+// all highest, and its marker at the first cell alone.
+fn time_calls(task: Task) {
+    let Task { turns, side, .. } = task;
+    let cells = side * side;
+    let mut random = Random { state: 1 };
+    let mut memory: Vec<u8> = (0..cells).map(|_| (random.next() >> 24) as u8).collect();
+    memory.resize(5 * cells, 0);
+    time_call("gray opening", turns, side, &mut memory, open);
+    memory[..cells].fill(0);
+    memory[0] = 255;
+    memory[cells..2 * cells].fill(255);
+    time_call("gray regrow", turns / 10 + 1, side, &mut memory, regrow);
+}
+
 fn main() {
     let mut numbers = std::env::args().skip(1).map(|word| word.parse().unwrap_or(0));
     let mut number = || numbers.next().unwrap_or(0);
@@ -192,4 +274,7 @@ fn main() {
     time_kind("gray", task, |x| (x >> 24) as u8);
     time_kind("heat", task, |x| i32::from((x >> 16) as i16) + 32_769);
     time_kind("mask", task, |x| (x >> 31) as u8);
+    if task.gap == 0 {
+        time_calls(task);
+    }
 }

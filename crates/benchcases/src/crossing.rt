@@ -3,6 +3,7 @@ ghost use Rattle.std.specs.Prelude.{◌≡◌, ◌≤◌, ◌≢◌, ◌||◌, t
 ghost use Rattle.bench.specs.Calls.{SameMemory, wiped};
 ghost use Rattle.bench.specs.Model.{rack_outline, shared, slate_outline, visit_to};
 
+use crate::differing::cross_differences;
 use bench::{EndRefused, Rack, Slate, Slip, begin, end};
 use cases::Answer;
 use levels::level::Level;
@@ -137,8 +138,16 @@ fn show_all(rt: &HostRuntime, faults: &[Fault]) -> io::Result<()> {
     Ok(())
 }
 
+// Prints answers that tell nothing.
+fn show_answers(rt: &HostRuntime, answers: [Result<(), Fault>; 3]) -> io::Result<()> {
+    for answer in answers {
+        rt.println(Answer::from(answer))?;
+    }
+    Ok(())
+}
+
 // Prints what is refused where the slips and the slates of two visits are crossed.
-pub(crate) fn cross_visits<L: Level>(rt: &HostRuntime) -> io::Result<()> {
+pub(crate) fn cross_visits<L: Level>(rt: &HostRuntime, picture: &[L]) -> io::Result<()> {
     let heap = rt.alloc();
     let mut levels = vec![in heap; L::lowest(); 30]?;
     let mut numbers = vec![in heap; 0; 5]?;
@@ -154,6 +163,26 @@ pub(crate) fn cross_visits<L: Level>(rt: &HostRuntime) -> io::Result<()> {
     let mut other_slate = Slate::open(other_numbers.as_mut_slice(), 5, 1, 1);
     let sides = cross_sides(&mut rack, &mut slate, &mut high_rack, &mut high_slate);
     show_all(rt, &sides)?;
+    let crossed = cross_differences(
+        &mut rack,
+        &mut slate,
+        &mut high_rack,
+        &mut high_slate,
+        7,
+        7,
+        picture,
+    );
+    show_answers(rt, crossed)?;
+    let crossed = cross_differences(
+        &mut rack,
+        &mut slate,
+        &mut other_rack,
+        &mut other_slate,
+        7,
+        8,
+        picture,
+    );
+    show_answers(rt, crossed)?;
     let flats = cross_flats(&mut rack, &mut slate, &mut other_rack, &mut other_slate);
     show_all(rt, &flats)
 }

@@ -3,11 +3,12 @@
 #![tactic(auto)]
 
 mod crossing;
+mod differing;
 mod lending;
 mod sheets;
 mod sizes;
 
-use cases::{Cases, Kind, run_at_every_kind};
+use cases::{Cases, Kind, first_levels, run_at_every_kind};
 use crossing::cross_visits;
 use elements::Element;
 use lending::lend;
@@ -24,7 +25,7 @@ impl Cases for BenchCases {
         println!(rt; "# {kind}: erosion and dilation")?;
         operate_all(rt, picture.as_slice(), element)?;
         println!(rt; "# {kind}: crossed slips and slates")?;
-        cross_visits::<K::Level>(rt)?;
+        cross_visits(rt, first_levels(picture.as_slice(), 5))?;
         println!(rt; "# {kind}: memory after a visit")?;
         lend(rt, picture.as_slice(), element)
     }

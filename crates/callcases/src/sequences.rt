@@ -8,8 +8,8 @@ use in_use::BenchInUse;
 use levels::level::Level;
 use std::io;
 
-// Prints the sum of the heights in a memory and the sum of its numbers, which are not below 0. `sum` would need a bound on them,
-// and `saturating_add` needs none.
+// Prints the sum of the heights in a memory and the sum of its numbers. No visit is open on it, so the numbers are as they were lent,
+// or an end has wiped them. `sum` would need a bound on them, and `saturating_add` needs none.
 fn print_memory<L: Level>(rt: &HostRuntime, levels: &[L], numbers: &[i32]) -> io::Result<()> {
     let heights = levels.iter().fold(
         0_u64,

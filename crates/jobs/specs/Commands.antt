@@ -3,7 +3,7 @@ use Rattle.std.specs.Prelude.{ℕ, List, [], ◌∷◌, take, Ok, Err, Result, s
 use Rattle.std.specs.Result.{result_map_both}
 use Rattle.elements.specs.declared.element.Element.{Element}
 use Rattle.commands.specs.declared.Command.{Command}
-use Rattle.commands.specs.declared.Command.TheVariants.{Begin, Load, Erode, Dilate, Area, End}
+use Rattle.commands.specs.declared.Command.TheVariants.{Begin, Load, Erode, Dilate, Open, Close, Area, End}
 use Rattle.commands.specs.declared.LineFault.{LineFault}
 use Rattle.commands.specs.Reading.{read}
 use Rattle.limits.specs.declared.fault.Fault.{Fault}
@@ -20,6 +20,8 @@ call_of element picture on_slip (Begin flat) = calls.Begin flat
 call_of element picture on_slip (Load place) = calls.Load place picture
 call_of element picture on_slip (Erode from to) = calls.Erode element from to
 call_of element picture on_slip (Dilate from to) = calls.Dilate element from to
+call_of element picture on_slip (Open size from to) = calls.Open element size from to
+call_of element picture on_slip (Close size from to) = calls.Close element size from to
 call_of element picture on_slip (Area place) = calls.Area place
 call_of element picture on_slip End = calls.End on_slip
 

@@ -8,7 +8,8 @@ ghost use Rattle.jobs.specs.Commands.{answer_to, leaves_after, line_answer, line
 ghost use Rattle.levels.specs.Gray.{gray_height};
 
 use bench::load;
-use calls::{area, dilate, erode};
+use calls::{area, dilate, erode, open};
+use closings::close;
 use commands::{Command, read_line};
 use elements::Element;
 use faults::JobFault;
@@ -46,6 +47,14 @@ impl Job<'_, '_> {
             Command::Dilate { from, to } => {
                 let (from, to) = (usize::from(from), usize::from(to));
                 dilate(&mut bench.rack, &self.element, from, to)?
+            }
+            Command::Open { size, from, to } => {
+                let (size, from, to) = (usize::from(size), usize::from(from), usize::from(to));
+                open(&mut bench.rack, &self.element, size, from, to)?
+            }
+            Command::Close { size, from, to } => {
+                let (size, from, to) = (usize::from(size), usize::from(from), usize::from(to));
+                close(&mut bench.rack, &self.element, size, from, to)?
             }
             Command::Area { place } => return Ok(Some(area(&bench.rack, usize::from(place))?)),
             Command::End => bench.end()?,

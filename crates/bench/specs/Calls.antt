@@ -93,9 +93,8 @@ pub record SameMemory {X : Type 0} (was is : MutBor (List X)) : Type 0 where
   pub reference : is.ghost_name ≡ was.ghost_name
   pub long : length is.now ≡ length was.now
 
--- A call makes a sheet in the first working plane so: it tells its refusal, or what is reported of the sources; no place changes; and the plane
--- is what is made of the sources. The second plane is free; a refusal leaves both as they
--- were.
+-- A call makes a sheet in the first working plane so: it tells its refusal, or what is reported of the sources; no place changes; and
+-- the plane is what is made of the sources. The second plane is free; a refusal leaves both as they were.
 pub record MakesInPlane {L T : Type 0} (height : L → ℕ) (made : Making) (report : OfTwo T) (was is : Rack L) (one other : ℕ)
     (answer : Result T Fault) : Type 0 where
   pub answers : answer ≡ tells (sources_refusal (rack_outline was) one other) (made_of report (rack_state height was) one other)
@@ -106,8 +105,8 @@ pub record MakesInPlane {L T : Type 0} (height : L → ℕ) (made : Making) (rep
       (λ _. is.memory.now ≡ was.memory.now)
   pub lent : SameMemory was.memory is.memory
 
--- A call keeps the sheets of a rack so: the state is the same, and so are the cells of all places. The working planes are
--- free; a refusal leaves them as they were.
+-- A call keeps the sheets of a rack so: the state is the same, and so are the cells of all places. The working planes are free; a
+-- refusal leaves them as they were.
 pub record KeepsSheets {L T : Type 0} (height : L → ℕ) (was is : Rack L) (answer : Result T Fault) : Type 0 where
   pub steps : rack_state height is ≡ rack_state height was
   pub memory : MatchResult answer

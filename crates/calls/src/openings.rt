@@ -12,8 +12,8 @@ use limits::{Fault, check_size};
 use morphology::{ByElement, Operation, SheetMap};
 use transforms::{InTurn, Reconstruction};
 
-/// Fills the place `to` with what two maps in turn make of the sheet in the place `from`, which may be the same: the first as many times
-/// as the size says, then the second as often. No map is applied more often, and no memory is used but the target and the
+/// Fills the place `to` with what two maps in turn make of the sheet in the place `from`, which may be the same: the first as many
+/// times as the size says, then the second as often. No map is applied more often, and no memory is used but the target and the
 /// working planes.
 /// Refuses a place that the rack has not (5), a size that is not 1 to 64 (7), no visit open (31), and a source place that is empty (34); a
 /// refusal changes nothing. Of the places exactly the target's cells change, and the working planes are left as they may be.

@@ -3,6 +3,7 @@ pub mod Memory
 pub mod Opened
 pub mod Stored
 pub mod Places
+pub mod PlanesWritten
 pub mod Unused
 pub mod KeptVisits
 pub mod StoredTallies

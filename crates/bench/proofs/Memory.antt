@@ -1,8 +1,10 @@
 -- Cells written into memory, as the code writes them and by their heights. Assumes nothing.
-use Rattle.std.proofs.Common.{◌≡◌, ℕ, ◌+◌, ◌*◌, ◌≤◌, List, [], ◌∷◌, ◌++◌, map, length, take, drop, replicate, None, subst, sym, refl, ap, ◌∙◌, arith}
+use Rattle.std.proofs.Common.{◌≡◌, ℕ, ◌+◌, ◌*◌, ◌≤◌, true, ◌&&◌, List, [], ◌∷◌, ◌++◌, map, length, take, drop, replicate, None, subst, sym, refl, ap, ◌∙◌, arith}
 use Rattle.std.specs.List.{FoldsTo}
 use Rattle.std.proofs.lemmas.List.{drop-map, length-append, length-drop, length-map, length-take-le, map-append, take-map}
 use Rattle.std.proofs.lemmas.Bool.{le-leb, eq-eqb}
+use Rattle.limits.specs.Sizes.{lawful_side}
+use Rattle.morphology.specs.Measuring.{measure_refusal, numbers_refusal}
 use Rattle.morphology.specs.Sheets.{lists_refusal}
 use Rattle.bench.specs.Model.{overwritten}
 
@@ -19,11 +21,16 @@ pub length-overwritten : {X : Type 0} (start : ℕ) (cells memory : List X) → 
 length-overwritten start cells memory room =
     simp (length-append, length-drop) (let front = length-take-le start memory (omega arith) in omega arith)
 
--- four lists of the right length with lawful sides are accepted
-pub lists_accepted : (w h one other to spare : ℕ) → 1 ≤ w → w ≤ 1024 → 1 ≤ h → h ≤ 1024 → one ≡ w * h → other ≡ w * h → to ≡ w * h → spare ≡ w * h
-    → lists_refusal w h (one ∷ other ∷ to ∷ spare ∷ []) ≡ None
-lists_accepted w h one other to spare a b c d e f g i =
-    rw (le-leb 1 w a, le-leb w 1024 b, le-leb 1 h c, le-leb h 1024 d, eq-eqb one (w * h) e, eq-eqb other (w * h) f, eq-eqb to (w * h) g, eq-eqb spare (w * h) i) refl
+-- lists of the right length with lawful sides are accepted: four for a transformation, and for a measurement three beside one for its numbers
+module _ (w h : ℕ) (wide : (1 ≤ w) × (w ≤ 1024)) (high : (1 ≤ h) × (h ≤ 1024)) (one other to : ℕ) (first : one ≡ w * h) (second : other ≡ w * h) (third : to ≡ w * h) where
+  lawful_sides : (lawful_side w && lawful_side h) ≡ true
+  lawful_sides = rw (le-leb 1 w wide.0, le-leb w 1024 wide.1, le-leb 1 h high.0, le-leb h 1024 high.1) refl
+
+  pub lists_accepted : (spare : ℕ) → spare ≡ w * h → lists_refusal w h (one ∷ other ∷ to ∷ spare ∷ []) ≡ None
+  lists_accepted spare fourth = rw (lawful_sides, eq-eqb one (w * h) first, eq-eqb other (w * h) second, eq-eqb to (w * h) third, eq-eqb spare (w * h) fourth) refl
+
+  pub measure_accepted : (depth wanted len : ℕ) → numbers_refusal depth wanted len ≡ None → measure_refusal w h (one ∷ other ∷ to ∷ []) depth wanted len ≡ None
+  measure_accepted depth wanted len numbers = rw (lawful_sides, eq-eqb one (w * h) first, eq-eqb other (w * h) second, eq-eqb to (w * h) third) numbers
 
 -- the heights of a part of memory
 pub heights_of_cells : {X : Type 0} (height : X → ℕ) (start n : ℕ) (memory : List X) → map height (take n (drop start memory)) ≡ take n (drop start (map height memory))

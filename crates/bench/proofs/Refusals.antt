@@ -1,11 +1,13 @@
 -- What a call leaves where it is refused and where it is not. Assumes nothing.
-use Rattle.std.proofs.Common.{◌≡◌, ℕ, ◌*◌, Bool, true, false, ◌&&◌, is_some, Some, None, Ok, Err, Option, sym, refl, ap, ◌∙◌, arith}
+use Rattle.std.proofs.Common.{◌≡◌, ℕ, ◌*◌, Bool, true, false, not, ◌&&◌, ◌==◌, is_some, Some, None, Ok, Err, Option, sym, refl, ap, ◌∙◌, arith}
 use Rattle.std.proofs.Math.Bool.{and-true}
 use Rattle.std.proofs.lemmas.Bool.{not-false, eqb-true, and_parts}
 use Rattle.limits.specs.declared.fault.Fault.{Fault}
 use Rattle.limits.specs.Faults.{first}
+use Rattle.limits.specs.Sizes.{lawful_size}
+use Rattle.morphology.specs.Measuring.{numbers_refusal}
 use Rattle.bench.specs.Model.{Outline, is_place}
-use Rattle.bench.specs.Calls.{load_refusal, make_refusal, source_refusal, sources_refusal}
+use Rattle.bench.specs.Calls.{depth_refusal, load_refusal, make_refusal, sheet_refusal, source_refusal, sources_refusal}
 use Rattle.bench.specs.TallyCalls.{combine_refusal, store_refusal}
 use Rattle.weights.specs.Weights.{Tally}
 use Rattle.limits.specs.Faults.{tells, told, unless}
@@ -78,6 +80,24 @@ sources_accepted o one other h =
       one_filled = filled.0;
       other_filled = filled.1;
     }
+
+-- numbers told of a sheet are refused as their depth and their list, and as what reads the sheet
+pub sheet_accepted : (o : Outline) (k : ℕ) → sheet_refusal o k ≡ None → MadeFrom o k k
+sheet_accepted o k h =
+    let first = passed_first _ _ _ (sym (ap told h)) in
+    let second = passed_first _ _ _ first.1 in
+    let third = passed_first _ _ _ second.1 in
+    let place = not-false _ first.0 in
+    let filled = not-false _ third.0 in
+    record { one_place = place; other_place = place; visit = not-false _ second.0; one_filled = filled; other_filled = filled }
+
+pub depth_accepted : (o : Outline) (depth k len wanted : ℕ) → Ok tt ≡ told (numbers_refusal depth wanted len) → sheet_refusal o k ≡ None → Ok tt ≡ told (depth_refusal o depth k len wanted)
+depth_accepted o depth k len wanted numbers sheet =
+    let first = passed_first _ _ _ numbers in
+    let lawful : not (lawful_size depth) ≡ false = first.0 in
+    let long : not (len == wanted) ≡ false = (passed_first _ _ _ first.1).0 in
+    let from = sheet_accepted o k sheet in
+    rw (from.one_place, lawful, long, from.visit, from.one_filled) refl
 
 -- a sheet made into a place is refused as its sources are
 pub make_refusal_at : (o : Outline) (one other to : ℕ) → is_place o.places to ≡ true → make_refusal o one other to ≡ sources_refusal o one other

@@ -2,9 +2,9 @@
 use Rattle.std.specs.Prelude.{ℕ, ◌*◌, Bool, true, false, cond, not, ◌&&◌, ◌||◌, ◌≡◌, List, length, map, replicate, is_some, Some, None, Option, Result, MatchResult, ◌==◌}
 use Rattle.std.specs.Borrow.{MutBor}
 use Rattle.limits.specs.declared.fault.Fault.{Fault}
-use Rattle.limits.specs.declared.fault.Fault.TheVariants.{Length, SheetPlace, TallyPlace, Flat, NoVisit, VisitOpen, OtherFlat, EmptySheet, EmptyTally, Unequal}
-use Rattle.limits.specs.Faults.{first, tells, unless}
-use Rattle.limits.specs.Sizes.{lawful_flat, sizes_refusal}
+use Rattle.limits.specs.declared.fault.Fault.TheVariants.{Length, SheetPlace, TallyPlace, SizeOrDepth, ListLength, Flat, NoVisit, VisitOpen, OtherFlat, EmptySheet, EmptyTally, Unequal}
+use Rattle.limits.specs.Faults.{first, tells, told, unless}
+use Rattle.limits.specs.Sizes.{lawful_flat, lawful_size, sizes_refusal}
 use Rattle.bench.specs.declared.rack.Rack.{Rack}
 use Rattle.bench.specs.Model.{Outline, State, cells_from, flat_of, is_place, overwritten, place_start, places_of, plane_of, rack_outline, rack_state, sheet_of, visit_to}
 
@@ -58,6 +58,15 @@ sheet_refusal = source_refusal SheetPlace EmptySheet
 
 abbrev pub tally_refusal : Outline → ℕ → Option Fault
 tally_refusal = source_refusal TallyPlace EmptyTally
+
+-- numbers told of the sheet in a place, to a depth and to a list that is to have `wanted` of them: the place, then the depth, then the
+-- length of the list, then the visit and the sheet
+abbrev pub depth_refusal : Outline → ℕ → ℕ → ℕ → ℕ → Option Fault
+depth_refusal o depth place len wanted =
+    first (not (is_place o.places place)) SheetPlace
+    (first (not (lawful_size depth)) SizeOrDepth
+    (first (not (len == wanted)) ListLength
+    (sheet_refusal o place)))
 
 -- the sheets in two places, the same or not: the places, then the visit, then whether they are filled
 abbrev pub sources_refusal : Outline → ℕ → ℕ → Option Fault
@@ -113,6 +122,16 @@ pub record KeepsSheets {L T : Type 0} (height : L → ℕ) (was is : Rack L) (an
       (λ _. places_of was.marks (map height is.memory.now) ≡ places_of was.marks (map height was.memory.now))
       (λ _. is.memory.now ≡ was.memory.now)
   pub lent : SameMemory was.memory is.memory
+
+-- A call writes numbers that are told of a sheet, to a depth, to a list so: it tells its refusal; the list has the numbers, or is as it
+-- was; and the sheets are kept. How many numbers there are goes by the number of the sheet's cells.
+pub record MeasuresSheet {L N : Type 0} (height : L → ℕ) (depth : ℕ) (wanted : ℕ → ℕ) (numbers : ℕ → ℕ → List ℕ → List N) (was is : Rack L)
+    (place : ℕ) (list_was list_is : List N) (answer : Result (Unit {0}) Fault) : Type 0 where
+  pub answers : answer ≡ told (depth_refusal (rack_outline was) depth place (length list_was) (wanted ((rack_outline was).w * (rack_outline was).h)))
+  pub list : MatchResult answer
+      (λ _. list_is ≡ numbers (rack_outline was).w (rack_outline was).h (sheet_of (rack_state height was) place))
+      (λ _. list_is ≡ list_was)
+  pub sheets : KeepsSheets height was is answer
 
 -- A call makes a sheet so, unless there is a refusal: it tells that, or what is reported of the sources; the state is the one with the
 -- sheet in the target; and of the places just the target's cells change. The working planes are free; a refusal leaves them

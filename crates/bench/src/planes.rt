@@ -1,11 +1,12 @@
 // Work on the cells of places and working planes, in the memory that a rack or a slate was lent.
-ghost use Rattle.std.specs.Prelude.{◌≡◌, ◌+◌, ◌*◌, ◌≤◌, map, length};
+ghost use Rattle.std.specs.Prelude.{◌≡◌, ◌+◌, ◌*◌, ◌≤◌, map, length, None};
 ghost use Rattle.bench.specs.Calls.{made_from};
 ghost use Rattle.bench.specs.Model.{cells_from, overwritten};
+ghost use Rattle.morphology.specs.Measuring.{numbers_refusal};
 
 use levels::level::Level;
 use limits::Sides;
-use morphology::Transform;
+use morphology::{Measurement, Transform};
 
 // Writes cells from a start on.
 pub(crate) fn store<L: Copy>(memory: &mut [L], start: usize, cells: &[L])
@@ -53,4 +54,32 @@ pub(crate) fn make_plane<T: Transform, L: Level>(
             sides.h,
         )
         .unwrap()
+}
+
+// Writes the numbers that a measurement tells of the sheet from a start to a list, by way of two working planes.
+pub(crate) fn measure_sheet<M: Measurement, L: Level>(
+    measurement: &M,
+    sheets: &[L],
+    planes: &mut [L],
+    sides: Sides,
+    start: usize,
+    list: &mut [M::Entry],
+)
+    requires sheet { start + sides.w * sides.h ≤ length sheets.now }
+    requires planes { length planes.old ≡ 2 * (sides.w * sides.h) }
+    requires numbers { numbers_refusal (M.depth_of measurement.now) (M.len_of measurement.now (sides.w * sides.h)) (length list.old) ≡ None }
+    ensures { list.new ≡ M.numbers_of measurement.now sides.w sides.h (cells_from start (sides.w * sides.h) (map L.height sheets.now)) }
+{
+    let cells = sides.cells();
+    let (plane, spare) = planes.split_at_mut(cells);
+    measurement
+        .measure(
+            part(sheets, start, cells),
+            plane,
+            spare,
+            sides.w,
+            sides.h,
+            list,
+        )
+        .unwrap();
 }

@@ -1,13 +1,14 @@
-// What the calls on sheets stand on: the sizes of a rack, the sheet in a place, and how a place is filled with a sheet that is made.
+// What the calls on sheets stand on: the sizes of a rack, the sheet in a place, how a place is filled with a sheet that is made, and how
+// numbers are told of a sheet.
 ghost use Rattle.std.specs.Prelude.{◌≡◌, ◌*◌, ◌≤◌, true, map, length, is_some, Some, None, MatchResult};
-ghost use Rattle.bench.specs.Calls.{MakesInPlane, MakesSheet, SameMemory, sheet_refusal, stored};
+ghost use Rattle.bench.specs.Calls.{MakesInPlane, MakesSheet, MeasuresSheet, SameMemory, sheet_refusal, stored};
 ghost use Rattle.bench.specs.Model.{is_place, overwritten, place_start, places_of, plane_of, rack_outline, rack_state};
 
-use crate::planes::{make_plane, part, store};
+use crate::planes::{make_plane, measure_sheet, part, store};
 use crate::rack::Rack;
 use levels::level::Level;
 use limits::{Fault, Sides};
-use morphology::Transform;
+use morphology::{Measurement, Transform};
 
 impl<L: Level> Rack<'_, L> {
     /// The width and height of the rack's sheets and the number of its places; all 0 where it was opened with wrong sizes.
@@ -118,5 +119,43 @@ impl<L: Level> Rack<'_, L> {
         let report = self.make_in_plane(transform, one, other)?;
         self.keep_plane(to);
         Ok(report)
+    }
+
+    /// Writes the numbers that a measurement tells of the sheet in a place to a list.
+    /// Refuses a place that the rack has not (5), a depth that is not 1 to 64 (7), a list that is not as long as the measurement asks (8),
+    /// no visit open (31), and a place that is empty (34); a refusal changes nothing. No place changes, and the working planes are left as
+    /// they may be.
+    pub fn measure<M: Measurement>(
+        &mut self,
+        measurement: &M,
+        place: usize,
+        list: &mut [M::Entry],
+    ) -> Result<(), Fault>
+        ensures { MeasuresSheet L.height (M.depth_of measurement.now) (M.len_of measurement.now) (M.numbers_of measurement.now)
+            self.old self.new place list.old list.new result }
+    {
+        let marks = &self.marks;
+        if !marks.has_place(place) {
+            return Err(Fault::SheetPlace);
+        }
+        let sides = Sides {
+            w: marks.w,
+            h: marks.h,
+        };
+        measurement.check(sides, list.len())?;
+        marks.source(place, Fault::SheetPlace, Fault::EmptySheet)?;
+        let cells = marks.cells();
+        let front = marks.places * cells;
+        let memory = &mut *self.memory;
+        let (sheets, planes) = memory.split_at_mut(front);
+        measure_sheet(
+            measurement,
+            sheets,
+            planes,
+            sides,
+            (place - 1) * cells,
+            list,
+        );
+        Ok(())
     }
 }

@@ -3,20 +3,11 @@ ghost use Rattle.std.specs.Prelude.{◌≡◌, ◌≤◌, map, length, if◌then
 ghost use Rattle.calls.specs.Queries.{extreme_spot, spot_numbers};
 ghost use Rattle.levels.specs.Mask.{mask_height};
 ghost use Rattle.morphology.specs.Cells.{cut, extreme_of, first_place};
-ghost use Rattle.morphology.specs.Sheets.{area};
 
 use crate::spot::Spot;
 use levels::Mask;
 use levels::level::Level;
 use morphology::Extremum;
-
-// The sum of the heights of a sheet.
-pub(crate) fn area_of<L: Level>(sheet: &[L]) -> u64
-    requires { length sheet.now ≤ 1048576 }
-    ensures { result ≡ area (map L.height sheet.now) }
-{
-    sheet.iter().map(|level| u64::from(level.height())).sum()
-}
 
 // The mask level of a level at a height: yes exactly where its height is at least that.
 fn mask_of<L: Level>(level: L, height: u32) -> Mask

@@ -5,9 +5,11 @@ mod cells;
 mod made;
 mod openings;
 mod queries;
+mod skeletons;
 mod spot;
 
 pub use made::{dilate, erode, join, meet};
 pub use openings::{in_turn, open, regrow};
 pub use queries::{area, cut, show_sheet, span};
+pub use skeletons::skeleton;
 pub use spot::Spot;

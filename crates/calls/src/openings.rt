@@ -10,7 +10,7 @@ use elements::Element;
 use levels::level::Level;
 use limits::{Fault, check_size};
 use morphology::{ByElement, Operation, SheetMap};
-use transforms::{InTurn, Reconstruction};
+use transforms::{InTurn, Reconstruction, Swelling};
 
 /// Fills the place `to` with what two maps in turn make of the sheet in the place `from`, which may be the same: the first as many
 /// times as the size says, then the second as often. No map is applied more often, and no memory is used but the target and the
@@ -75,5 +75,8 @@ pub fn regrow<L: Level>(
 ) -> Result<u64, Fault>
     ensures { MakesSheet L.height (reconstruction_by element.now) (rounds_by element.now) rack.old rack.new marker upper to result }
 {
-    rack.make(&Reconstruction::by_element(element), marker, upper, to)
+    let reconstruction = Reconstruction {
+        swell: Swelling::by_element(element),
+    };
+    rack.make(&reconstruction, marker, upper, to)
 }

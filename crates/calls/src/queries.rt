@@ -6,12 +6,13 @@ ghost use Rattle.levels.specs.Mask.{mask_height};
 ghost use Rattle.limits.specs.Faults.{told};
 ghost use Rattle.morphology.specs.Cells.{cut};
 
-use crate::cells::{area_of, spot_of, write_mask};
+use crate::cells::{spot_of, write_mask};
 use crate::spot::Spot;
 use bench::Rack;
 use levels::Mask;
 use levels::level::Level;
 use limits::Fault;
+use measurements::area_of;
 use morphology::Extremum;
 
 /// Tells the area of the sheet in a place: the sum of its heights.
@@ -19,7 +20,9 @@ use morphology::Extremum;
 pub fn area<L: Level>(rack: &Rack<'_, L>, place: usize) -> Result<u64, Fault>
     ensures { result ≡ area_answer (rack_state L.height rack.now) place }
 {
-    Ok(area_of(rack.sheet(place)?))
+    let sheet = rack.sheet(place)?;
+    let (w, h, _) = rack.sizes();
+    area_of(sheet, w, h)
 }
 
 /// Tells the span of the sheet in a place: the spots of its least and of its greatest level, each the first in reading order.

@@ -1,3 +1,4 @@
 pub mod Lowering
 pub mod Sweeping
 pub mod Definitions
+pub mod Areas

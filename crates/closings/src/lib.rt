@@ -4,6 +4,8 @@
 mod closing;
 mod inside;
 mod passes;
+mod spectra;
 
 pub use closing::{close, valley};
 pub use inside::ErosionInside;
+pub use spectra::{PatternSpectrum, spectrum};

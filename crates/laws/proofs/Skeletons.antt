@@ -114,24 +114,26 @@ module _ (cells : ℕ) (shrink swell : List ℕ → List ℕ) (laws : PairLaws c
           (λ a low. (λ i. minus (sym (e_cut a low n) i) (sym (ap (opening shrink swell 1) (e_cut a low n) ∙ flat.cuts a (e n) low (sized n)) i)))
           (minus_over_cuts top (e n) (opening shrink swell 1 (e n)) (e_topped n) (flat_topped cells (opening shrink swell 1) flat top (e n) (sized n) (e_topped n)))
 
--- what is rebuilt of any list of pieces: sheets, of which none is above the next
-module _ (cells : ℕ) (shrink swell : List ℕ → List ℕ) (laws : PairLaws cells shrink swell) (depth : ℕ) (pieces : List ℕ) (long : length pieces ≡ (depth + 1) * cells) where
-  piece_long : (k : ℕ) → k ≤ depth → length (piece_of cells pieces k) ≡ cells
+-- what is rebuilt of any list of pieces, by a map that keeps the number of cells and is nowhere below its sheet: sheets, of which none is
+-- above the next
+module _ (cells : ℕ) (swell : List ℕ → List ℕ) (sheet : (f : List ℕ) → length f ≡ cells → length (swell f) ≡ cells) (above : (f : List ℕ) → length f ≡ cells → Below f (swell f))
+    (depth : ℕ) (pieces : List ℕ) (long : length pieces ≡ (depth + 1) * cells) where
+  pub piece_long : (k : ℕ) → k ≤ depth → length (piece_of cells pieces k) ≡ cells
   piece_long k few = simp (length-take, length-drop, long) (omega (arith, mul-le (k + 1) cells (depth + 1) cells (omega arith) (omega arith), add-mul k 1 cells, one-mul cells))
 
-  rebuilt_long : (n : ℕ) → n ≤ depth → length (rebuilt swell cells depth pieces n) ≡ cells
+  pub rebuilt_long : (n : ℕ) → n ≤ depth → length (rebuilt swell cells depth pieces n) ≡ cells
   rebuilt_long zero few = piece_long depth (omega arith)
   rebuilt_long (suc n) few =
-      let swollen = laws.swells.sheet (rebuilt swell cells depth pieces n) (rebuilt_long n (omega arith)) in
+      let swollen = sheet (rebuilt swell cells depth pieces n) (rebuilt_long n (omega arith)) in
       length-cell_by_cell ◌+◌ (swell (rebuilt swell cells depth pieces n)) (piece_of cells pieces (depth - suc n)) (swollen ∙ sym (piece_long (depth - suc n) (omega arith))) ∙ swollen
 
-  rebuilt_rises : (n : ℕ) → n < depth → Below (rebuilt swell cells depth pieces n) (rebuilt swell cells depth pieces (n + 1))
+  pub rebuilt_rises : (n : ℕ) → n < depth → Below (rebuilt swell cells depth pieces n) (rebuilt swell cells depth pieces (n + 1))
   rebuilt_rises n few = rw add-one (λ p.
       let before = rebuilt swell cells depth pieces n in
       let sized = rebuilt_long n (omega arith) in
       let piece = piece_of cells pieces (depth - suc n) in
-      let grown : get_or before p 0 ≤ get_or (swell before) p 0 = laws.above before sized p in
-      let sum = get_or-cell_by_cell ◌+◌ (swell before) piece p 0 0 (laws.swells.sheet before sized ∙ sym (piece_long (depth - suc n) (omega arith))) refl in
+      let grown : get_or before p 0 ≤ get_or (swell before) p 0 = above before sized p in
+      let sum = get_or-cell_by_cell ◌+◌ (swell before) piece p 0 0 (sheet before sized ∙ sym (piece_long (depth - suc n) (omega arith))) refl in
       omega arith)
 
 pub pairs_restore : PairsRestore
@@ -139,6 +141,6 @@ pairs_restore cells shrink swell laws = record {
   long = λ depth f long. skeleton_long cells shrink swell laws depth f long;
   rebuilds = λ depth k f long low. skeleton_rebuilds cells shrink swell laws depth f long k low;
   restores = λ depth k f long low. ap (times k swell) (skeleton_rebuilds cells shrink swell laws depth f long k low);
-  rises = λ depth n pieces long few. rebuilt_rises cells shrink swell laws depth pieces long n few;
+  rises = λ depth n pieces long few. rebuilt_rises cells swell laws.swells.sheet laws.above depth pieces long n few;
   sums = λ top depth f long t. skeleton_over_cuts cells shrink swell laws depth f long top t;
 }

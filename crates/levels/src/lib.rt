@@ -5,8 +5,10 @@ pub mod gray;
 pub mod heat;
 pub mod level;
 pub mod mask;
+pub mod number;
 
 pub use gray::Gray;
 pub use heat::Heat;
 pub use level::Level;
 pub use mask::Mask;
+pub use number::Number;

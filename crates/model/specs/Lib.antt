@@ -1,4 +1,3 @@
-pub mod ByElement
 pub mod SheetCalls
 pub mod ListCalls
 pub mod Calls

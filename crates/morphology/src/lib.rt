@@ -4,6 +4,7 @@
 mod erosion;
 mod extremum;
 mod map;
+mod measurement;
 mod operation;
 mod passes;
 mod runs;
@@ -14,6 +15,7 @@ mod transform;
 pub use erosion::{dilate, erode, operate};
 pub use extremum::Extremum;
 pub use map::SheetMap;
+pub use measurement::Measurement;
 pub use operation::Operation;
 pub use passes::margins;
 pub use runs::keep_extremes;

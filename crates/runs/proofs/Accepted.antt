@@ -4,7 +4,6 @@ use Rattle.std.proofs.lemmas.Bool.{leb-true, and_parts, false≢true}
 use Rattle.limits.specs.declared.fault.Fault.{Fault}
 use Rattle.limits.specs.declared.fault.Fault.TheVariants.{EmptySheet, SheetPlace, Unequal, VisitOpen}
 use Rattle.std.specs.Prelude.{◌==◌}
-use Rattle.model.specs.ListCalls.{depth_refusal}
 use Rattle.limits.specs.Faults.{first, tells, told}
 use Rattle.limits.specs.Sizes.{lawful_flat, lawful_size, lawful_factor}
 use Rattle.bench.specs.Model.{Outline, flat_of, is_place}
@@ -13,7 +12,7 @@ use Rattle.calls.specs.OfSize.{of_size_refusal}
 use Rattle.tallies.specs.Scaling.{scale_refusal}
 use Rattle.weights.specs.Weights.{Tally}
 use Rattle.bench.specs.declared.visit.Visit.{Visit}
-use Rattle.bench.specs.Calls.{begin_refusal, equal_benches, make_refusal, same_flat}
+use Rattle.bench.specs.Calls.{begin_refusal, depth_refusal, equal_benches, make_refusal, same_flat}
 use Rattle.bench.proofs.Refusals.{make_accepted, source_accepted}
 
 -- a table that refuses nothing has passed the test that comes first, and refuses nothing after it

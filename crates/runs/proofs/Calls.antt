@@ -27,13 +27,12 @@ use Rattle.laws.specs.Sums.{HeightsAtMost}
 use Rattle.laws.proofs.Sums.{list_fold_added, list_fold_kept, list_fold_same, over_same}
 use Rattle.laws.proofs.SumsOfCuts.{area_over_cuts, extreme_over_cuts, swap_int_sums}
 use Rattle.model.specs.Calls.{Call, Begin, End, Load, Erode, Dilate, Open, Close, Meet, Join, Regrow, Edge, Peak, Valley, Differ, Add, Scale, Area, Span, Spectrum, Skeleton, ShowSheet, ShowTally, SheetTold}
-use Rattle.model.specs.ByElement.{skeleton_by, spectrum_by}
 use Rattle.model.specs.ListCalls.{skeleton_refusal, spectrum_refusal}
 use Rattle.model.specs.Steps.{Bench}
 use Rattle.bench.specs.TallyCalls.{combine_refusal, difference_refusal}
-use Rattle.calls.specs.ByElement.{opening_by, reconstruction_by, rounds_by, shrink, swell}
+use Rattle.calls.specs.ByElement.{opening_by, reconstruction_by, rounds_by, shrink, skeleton_by, swell}
 use Rattle.calls.specs.OfSize.{of_size_refusal}
-use Rattle.closings.specs.ByElement.{close, closing_by}
+use Rattle.closings.specs.ByElement.{close, closing_by, spectrum_by}
 use Rattle.tallies.specs.Scaling.{scale_refusal}
 use Rattle.tallies.specs.Showing.{show_tally_refusal}
 use Rattle.weights.specs.Weights.{Tally, WithinWeight, multiple, sum_of_tallies}

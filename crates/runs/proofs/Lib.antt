@@ -6,6 +6,7 @@ pub mod Multiples
 pub mod Weights
 pub mod Reached
 pub mod Calls
+pub mod Restored
 pub mod FirstInOrder
 pub mod Runs
 pub mod RunLaws

@@ -15,14 +15,13 @@ use Rattle.bench.specs.Calls.{Making, begin_refusal, end_refusal, ended, load_re
 use Rattle.calls.specs.Made.{by_element}
 use Rattle.calls.specs.Queries.{extreme_spot, show_sheet_refusal}
 use Rattle.operators.specs.Tallies.{differed}
-use Rattle.model.specs.ByElement.{skeleton_by, spectrum_by}
 use Rattle.model.specs.Calls.{Call, Begin, End, Load, Erode, Dilate, Open, Close, Meet, Join, Regrow, Edge, Peak, Valley, Differ, Add, Scale, Area, Span, Spectrum, Skeleton, ShowSheet, ShowTally, Told, NothingTold, SlipTold, RoundsTold, AreaTold, SpanTold, SpectrumTold, SkeletonTold, SheetTold, TallyTold}
 use Rattle.model.specs.ListCalls.{skeleton_refusal, spectrum_refusal}
 use Rattle.model.specs.Steps.{Bench, answer, step, telling, with_rack, with_slate}
 use Rattle.bench.specs.TallyCalls.{combine_refusal, difference_refusal}
-use Rattle.calls.specs.ByElement.{opening_by, reconstruction_by, rounds_by}
+use Rattle.calls.specs.ByElement.{opening_by, reconstruction_by, rounds_by, skeleton_by}
 use Rattle.calls.specs.OfSize.{of_size_refusal}
-use Rattle.closings.specs.ByElement.{closing_by}
+use Rattle.closings.specs.ByElement.{closing_by, spectrum_by}
 use Rattle.tallies.specs.Scaling.{scale_refusal}
 use Rattle.tallies.specs.Showing.{show_tally_refusal}
 use Rattle.weights.specs.Weights.{Tally, difference, multiple, sum_of_tallies}

@@ -1,36 +1,24 @@
 -- The theorems about whole runs. Assumes nothing.
-use Rattle.std.proofs.Common.{◌≡◌, ℕ, ◌+◌, ◌-◌, ◌*◌, ◌≤◌, true, false, ◌&&◌, suc, List, [], ◌∷◌, map, replicate, length, eqb, leb, ltb, None, Ok, sym, refl, ap, ◌∙◌, subst, arith}
-use Rattle.std.specs.List.{list_any}
+use Rattle.std.proofs.Common.{◌≡◌, ℕ, ◌*◌, ◌≤◌, true, ◌&&◌, List, ◌∷◌, map, replicate, length, leb, None, Ok, sym, ap, ◌∙◌, subst, arith}
 use Rattle.std.specs.Prelude.{drop, sum}
 use Rattle.std.proofs.lemmas.List.{length-replicate}
-use Rattle.std.proofs.lemmas.Bool.{eq-eqb, le-leb, le-ltb}
-use Rattle.limits.specs.Sizes.{lawful_side, lawful_size}
+use Rattle.limits.specs.Sizes.{lawful_side}
 use Rattle.bench.specs.Model.{sheet_of}
 use Rattle.bench.specs.Calls.{begin_refusal}
-use Rattle.operators.specs.Maps.{times}
-use Rattle.operators.specs.Restoring.{answer_list, rebuilt, restored, left_in_list}
+use Rattle.operators.specs.Restoring.{answer_list, restored, restore_refusal, left_in_list}
 use Rattle.operators.specs.Skeletons.{skeleton}
 use Rattle.operators.specs.Spectra.{spectrum}
-use Rattle.laws.specs.Sums.{HeightsAtMost}
-use Rattle.laws.proofs.ElementLaws.{erosion_and_dilation_are_pair}
-use Rattle.laws.proofs.Maps.{flat_times, flat_topped}
-use Rattle.runs.proofs.Calls.{skeletons_of, spectra_of}
+use Rattle.runs.proofs.Calls.{spectra_of}
+use Rattle.runs.proofs.Restored.{restore_accepted, restored_opening}
 use Rattle.model.specs.Calls.{Begin, Call, Skeleton, SkeletonTold, SlipTold, Spectrum, SpectrumTold}
 use Rattle.calls.specs.ByElement.{shrink, swell}
 use Rattle.closings.specs.ByElement.{close}
 use Rattle.model.specs.Steps.{Bench, BenchSizes, after, answer, bench_opened}
 use Rattle.runs.proofs.Parts.{answer_parts, refusal, told_by}
 use Rattle.runs.specs.Theorems.{Forgetting, MaskSums, OpenedAlike, Restoring, RunLaws, SkeletonsTellSheets, SpectraTellAreas, in_heights, bench_after, TalliesWithinWeights, FilledPlaces}
-use Rattle.runs.proofs.Accepted.{begin_closed, depth_listed, none_refused, tells_ok}
+use Rattle.runs.proofs.Accepted.{begin_closed, depth_listed, tells_ok}
 use Rattle.runs.proofs.Reached.{Reached}
 use Rattle.runs.proofs.Runs.{answers_go, as_opened_same, run_goes, run_reached, sides_lawful, start_goes}
-
--- no cell of a sheet that keeps the top is above a number that is not below it
-none_above : (top : ℕ) (f : List ℕ) → HeightsAtMost top f → top ≤ 65536 → list_any (ltb 65536) f ≡ false
-none_above top [] t low = refl
-none_above top (x ∷ f) t low =
-    let first : x ≤ top = t 0 in
-    rw (le-ltb 65536 x (omega arith)) (none_above top f (λ p. t (suc p)) low)
 
 -- a list of as many zeros as a sheet of a bench has cells
 abbrev blank : Bench → List ℕ
@@ -56,20 +44,16 @@ module _ {X : Type 0} (height : X → ℕ) (top : ℕ) (bounded : (x : X) → he
       let ok = tells_ok (refusal b (Skeleton e depth place len)) (told_by b (Skeleton e depth place len)) (SkeletonTold pieces) (sym (answer_parts b (Skeleton e depth place len)) ∙ told) in
       let listed = depth_listed b.rack.outline depth place len _ ok.0 in
       let long = r.held.sized place listed.filled in
-      let laws = skeletons_of e w h in
       let same : skeleton (shrink e w h) (swell e w h) depth f ≡ pieces = cc (ok.1) in
-      let count = ap length (sym same) ∙ laws.long depth f long in
-      let built : rebuilt (swell e w h) (w * h) depth pieces (depth - size) ≡ times size (shrink e w h) f =
-      ap (λ xs. rebuilt (swell e w h) (w * h) depth xs (depth - size)) (sym same) ∙ laws.rebuilds depth size f long within in
-      let topped = flat_topped (w * h) (times size (shrink e w h)) (flat_times (w * h) (shrink e w h) (erosion_and_dilation_are_pair e w h).shrinks size) top f long (r.held.topped place) in
       let sides : (lawful_side w && lawful_side h) ≡ true = subst (λ s. (lawful_side s.0 && lawful_side s.1) ≡ true) (sym r.rack_sizes)
       (sides_lawful o place (ap (λ s. leb 1 place && leb place s.2) (sym r.rack_sizes) ∙ listed.there)) in
-      let none = none_refused (lawful_side w && lawful_side h) _ _ sides
-      (none_refused (eqb (length answer_was) (w * h) && eqb (length work_was) (w * h)) _ _ (rw (eq-eqb _ _ answer_long, eq-eqb _ _ work_long) refl)
-      (none_refused (lawful_size depth && leb size depth) _ _ (rw (listed.lawful, le-leb size depth within) refl)
-      (none_refused (eqb (length pieces) ((depth + 1) * (w * h))) _ _ (eq-eqb _ _ count)
-      (rw (built, none_above top (times size (shrink e w h) f) topped low) refl)))) in
-      (none, ap (λ r. left_in_list r (restored (swell e w h) (w * h) depth size pieces) answer_was) none ∙ ap (times size (swell e w h)) built)
+      let accepted = restore_accepted e w h depth size f long within top (length answer_was) (length work_was) (r.held.topped place) low sides listed.lawful answer_long work_long in
+      let none = ap (λ xs. restore_refusal (swell e w h) w h depth size xs (length answer_was) (length work_was)) (sym same) ∙ accepted in (
+        none,
+        ap (λ r. left_in_list r (restored (swell e w h) (w * h) depth size pieces) answer_was) none
+            ∙ ap (restored (swell e w h) (w * h) depth size) (sym same)
+            ∙ restored_opening e w h depth size f long within,
+      )
 
   pub skeletons_tell : top ≤ 65536 → SkeletonsTellSheets height
   skeletons_tell low o p calls others e depth place other len pieces wide tall one two =

@@ -4,39 +4,20 @@ ghost use Rattle.laws.specs.Maps.{Below};
 ghost use Rattle.limits.specs.Faults.{tells};
 ghost use Rattle.morphology.specs.Cells.{met};
 ghost use Rattle.morphology.specs.Sheets.{area, lists_refusal};
-ghost use Rattle.morphology.specs.declared.operation.Operation.TheVariants.{Dilation};
 ghost use Rattle.operators.specs.Maps.{times};
 ghost use Rattle.operators.specs.Reconstruction.{changing_times, reconstructed, round, rounds};
 
 use crate::mapped::apply;
-use elements::Element;
+use crate::swelling::Swelling;
 use levels::level::Level;
 use limits::{Fault, Sides};
-use morphology::{
-    ByElement, Extremum, Operation, SheetMap, Transform, check_sheets, keep_extremes,
-};
+use morphology::{Extremum, SheetMap, Transform, check_sheets, keep_extremes};
 
-/// The reconstruction of the second sheet, the upper one, from the first, the marker, by a map that swells: nowhere is its sheet
-/// below the one that it was made of. It reports the number of changing rounds.
+/// The reconstruction of the second sheet, the upper one, from the first, the marker, by a map that swells. It reports the number of
+/// changing rounds.
 #[derive(Drop)]
 pub struct Reconstruction<M: SheetMap> {
-    pub swell: M,
-    ghost swells: { (w h : ℕ) (f : List ℕ) → length f ≡ w * h → Below f (M.maps swell w h f) },
-}
-
-impl<'e> Reconstruction<ByElement<'e>> {
-    /// Reconstruction by the dilation by an element, which swells since (0, 0) is one of the offsets.
-    pub fn by_element(element: &'e Element) -> Reconstruction<ByElement<'e>>
-        ensures operation { result.swell.op ≡ Dilation }
-        ensures element { result.swell.element.now ≡ element.now }
-    {
-        Reconstruction {
-            swell: ByElement {
-                op: Operation::Dilation,
-                element,
-            },
-        }
-    }
+    pub swell: Swelling<M>,
 }
 
 // Each cell keeps the lower of itself and of the cell of the upper sheet at its place.
@@ -63,7 +44,7 @@ fn nowhere_above<L: Level>(one: &[L], other: &[L]) -> bool
 
 // A round from a sheet nowhere above the upper one: the sheet becomes what the round makes of it. Tells whether that changed it.
 fn raise<M: SheetMap, L: Level>(
-    by: &Reconstruction<M>,
+    by: &Swelling<M>,
     upper: &[L],
     sheet: &mut [L],
     spare: &mut [L],
@@ -74,13 +55,13 @@ fn raise<M: SheetMap, L: Level>(
     requires spare { length spare.old ≡ sides.w * sides.h }
     requires under { Below (map L.height sheet.old) (map L.height upper.now) }
     ensures round { map L.height sheet.new
-        ≡ round (M.maps by.now.swell sides.w sides.h) (map L.height upper.now) (map L.height sheet.old) }
+        ≡ round (M.maps by.now.map sides.w sides.h) (map L.height upper.now) (map L.height sheet.old) }
     ensures under { Below (map L.height sheet.new) (map L.height upper.now) }
     ensures changes { MatchBool result
         (area (map L.height sheet.old) < area (map L.height sheet.new))
         (sheet.new ≡ sheet.old) }
 {
-    apply(&by.swell, sheet, spare, sides);
+    apply(&by.map, sheet, spare, sides);
     meet(upper, spare);
     if nowhere_above(spare, sheet) {
         return false;
@@ -91,7 +72,7 @@ fn raise<M: SheetMap, L: Level>(
 
 // Rounds until one changes nothing; tells how many changed the sheet. Each of these raises its area, and the upper sheet bounds it.
 fn settle<M: SheetMap, L: Level>(
-    by: &Reconstruction<M>,
+    by: &Swelling<M>,
     upper: &[L],
     sheet: &mut [L],
     spare: &mut [L],
@@ -102,9 +83,9 @@ fn settle<M: SheetMap, L: Level>(
     requires spare { length spare.old ≡ sides.w * sides.h }
     requires under { Below (map L.height sheet.old) (map L.height upper.now) }
     ensures rounds { result ≡ changing_times (area (map L.height upper.now))
-        (round (M.maps by.now.swell sides.w sides.h) (map L.height upper.now)) (map L.height sheet.old) }
+        (round (M.maps by.now.map sides.w sides.h) (map L.height upper.now)) (map L.height sheet.old) }
     ensures sheet { map L.height sheet.new ≡ times result
-        (round (M.maps by.now.swell sides.w sides.h) (map L.height upper.now)) (map L.height sheet.old) }
+        (round (M.maps by.now.map sides.w sides.h) (map L.height upper.now)) (map L.height sheet.old) }
 {
     let mut count = 0;
     loop {
@@ -118,9 +99,9 @@ fn settle<M: SheetMap, L: Level>(
 impl<M: SheetMap> Transform for Reconstruction<M> {
     type Report = u64;
 
-    ghost makes = { λ t w h f g. reconstructed (M.maps t.swell w h) f g };
+    ghost makes = { λ t w h f g. reconstructed (M.maps t.swell.map w h) f g };
 
-    ghost report_of = { λ t w h f g. rounds (M.maps t.swell w h) f g };
+    ghost report_of = { λ t w h f g. rounds (M.maps t.swell.map w h) f g };
 
     fn transform<L: Level>(
         &self,
@@ -134,6 +115,6 @@ impl<M: SheetMap> Transform for Reconstruction<M> {
         let sides = check_sheets(w, h, &[one.len(), other.len(), to.len(), spare.len()])?;
         to.copy_from_slice(one);
         meet(other, to);
-        Ok(settle(self, other, to, spare, sides))
+        Ok(settle(&self.swell, other, to, spare, sides))
     }
 }

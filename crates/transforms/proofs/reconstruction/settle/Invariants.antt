@@ -8,7 +8,7 @@ use Rattle.transforms.proofs.reconstruction.settle.Given as goal
 abbrev pub invariant-loop-sides : goal.invariant-loop-sides
 invariant-loop-sides g l =
     let heights = map g.L.Level.height in
-    let turn = round (g.M.SheetMap.maps l.by.swell l.fn.sides.w l.fn.sides.h) (heights l.upper) in
+    let turn = round (g.M.SheetMap.maps l.by.map l.fn.sides.w l.fn.sides.h) (heights l.upper) in
     record {
       under : Below (heights l.sheet) (heights l.upper);
       counted : Counted (area (heights l.upper)) turn (heights l.initial.sheet) l.count (heights l.sheet);

@@ -1,10 +1,10 @@
-use Rattle.std.proofs.Common.{◌≡◌, ◌≤◌, ◌+◌, ◌*◌, ◌++◌, map, length, Ok, Err, refl, ap, sym, ◌∙◌, arith}
-use Rattle.std.proofs.lemmas.List.{length-append}
+use Rattle.std.proofs.Common.{◌≡◌, ◌≤◌, ◌*◌, map, length, Ok, Err, refl, ap, ◌∙◌, arith}
 use Rattle.std.proofs.lemmas.Result.{err_from_is_err_and}
 use Rattle.bench.specs.Calls.{OfTwo, made_from, made_of}
-use Rattle.bench.specs.Model.{place_start, places_of, rack_outline, rack_state, sheet_held, state_of}
+use Rattle.bench.specs.Model.{place_start, rack_outline, rack_state}
 use Rattle.bench.proofs.Refusals.{refused_tells, accepted_tells, sources_accepted}
-use Rattle.bench.proofs.Places.{made_from_places, place_in_memory, places_fit, places_split, plane_split, some_cells, some_places, state_of_places}
+use Rattle.bench.proofs.Places.{made_from_places, place_in_memory, places_fit, plane_split, some_cells, some_places}
+use Rattle.bench.proofs.PlanesWritten.{memory_long, places_kept, sheets_are, state_kept}
 use Rattle.bench.proofs.rack.Rack.make_in_plane.Goals as goal
 
 pub returns-in_err-refuse_sources : goal.returns-in_err-refuse_sources
@@ -58,25 +58,17 @@ returns g c =
     let planes = c.make_plane.new.planes in
     let front : length sheets ≡ marks.places * cells = c.split_at_mut-sheets.ensures.front_len ∙ ap (λ n. marks.places * n) count in
     let split = c.split_at_mut-sheets.ensures.value in
-    let places : map height sheets ≡ places_of marks heights =
-    sym (places_split marks height sheets was front) ∙ ap (λ memory. places_of marks (map height memory)) (sym split) in
-    let same : places_of marks (map height (sheets ++ planes)) ≡ places_of marks heights = places_split marks height sheets planes front ∙ places in
+    let long = c.make_plane.auto.planes in
     let of_sources : (X : Type 0) (makes : OfTwo X) → made_from makes marks.w marks.h (place_start cells c.args.one) (place_start cells c.args.other) (map height sheets)
     ≡ made_of makes (rack_state height rack) c.args.one c.args.other =
-    λ X makes. ap (made_from makes marks.w marks.h (place_start cells c.args.one) (place_start cells c.args.other)) places
+    λ X makes. ap (made_from makes marks.w marks.h (place_start cells c.args.one) (place_start cells c.args.other)) (sheets_are height marks rack.memory.now sheets was planes front split long)
     ∙ made_from_places makes marks heights c.args.one c.args.other accepted in
     record {
       answers = ap Ok ((rw count at c.make_plane.ensures.reports) ∙ of_sources _ (g.T.Transform.report_of c.args.transform.now)) ∙ accepted_tells _ _ passed;
-      steps =
-          sym (state_of_places sheet_held marks (map height (sheets ++ planes)))
-          ∙ ap (state_of sheet_held marks) same
-          ∙ state_of_places sheet_held marks heights;
+      steps = state_kept height marks rack.memory.now sheets was planes front split long;
       memory = (
-        same,
+        places_kept height marks rack.memory.now sheets was planes front split long,
         plane_split marks height sheets planes front ∙ (rw count at c.make_plane.ensures.made) ∙ of_sources _ (g.T.Transform.makes c.args.transform.now),
       );
-      lent = record {
-        reference = refl;
-        long = length-append sheets planes ∙ ap (λ n. length sheets + n) c.make_plane.auto.planes ∙ sym (length-append sheets was) ∙ sym (ap length split);
-      };
+      lent = record { reference = refl; long = memory_long height marks rack.memory.now sheets was planes front split long };
     }

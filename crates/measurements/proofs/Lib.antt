@@ -1,0 +1,2 @@
+pub mod Falling
+pub mod Pieces

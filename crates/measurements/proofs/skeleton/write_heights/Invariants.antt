@@ -1,0 +1,5 @@
+use Rattle.std.proofs.Common.{◌≡◌, ℕ, ◌<◌, get_or, map}
+use Rattle.measurements.proofs.skeleton.write_heights.Given as goal
+
+abbrev pub invariant-loop-k : goal.invariant-loop-k
+invariant-loop-k g l = (j : ℕ) → j < l.k → get_or l.piece j 0 ≡ get_or (map g.L.Level.height l.sheet) j 0

@@ -1,0 +1,3 @@
+pub mod BySkeleton
+pub mod Lengths
+pub mod Numbers

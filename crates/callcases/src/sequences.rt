@@ -21,17 +21,19 @@ fn print_memory<L: Level>(rt: &HostRuntime, levels: &[L], numbers: &[i32]) -> io
     println!(rt; "memory {heights} {sum}")
 }
 
-// Makes calls one after another, and prints each with its answer.
+// Makes calls one after another, and prints each with its answer. The pieces of the last skeleton are kept for restores, none at first.
 fn make_all<L: Level>(
     rt: &HostRuntime,
     given: &Given<L>,
     bench: &mut BenchInUse<'_, L>,
     calls: &str,
 ) -> io::Result<()> {
+    let mut pieces = Vec::new(rt.alloc());
     for call in calls.lines() {
         let line = Line::read(rt.alloc(), call)?;
-        let reply = make(rt.alloc(), given, bench, &line)?;
+        let reply = make(rt.alloc(), given, bench, pieces.as_slice(), &line)?;
         println!(rt; "{call}: {reply}")?;
+        pieces = reply.pieces_after(pieces);
     }
     Ok(())
 }

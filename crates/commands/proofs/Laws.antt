@@ -9,7 +9,7 @@ use Rattle.text.specs.Misfits.{FirstMisfit}
 use Rattle.text.proofs.Forms.{Clear, reads_back, reads_what_was_written, refuses_at_first_misfit}
 use Rattle.text.proofs.Misfits.{misfit_at_once, misfit_after}
 use Rattle.commands.specs.declared.Command.{Command}
-use Rattle.commands.specs.declared.Command.TheVariants.{Begin, Load, Erode, Dilate, Open, Close, Area, End}
+use Rattle.commands.specs.declared.Command.TheVariants.{Begin, Load, Erode, Dilate, Open, Close, Area, Spectrum, End}
 use Rattle.commands.specs.Lines.{letter, numbers, spaced, command_text, AllInRange, InRange, Lawful}
 use Rattle.commands.specs.Reading.{arguments, CommandKind, one, two, three, command_kind, made, made_by, command_or_misfit, by_column, read, ReadsBackLines, ReadsOnlyLines, RefusesLinesAtMisfit}
 
@@ -87,8 +87,9 @@ known l =
     (λ _. cond_both (eqb l 79) _ _ (Known l) (λ e. makes_three l Open (λ _ _ _. sym (eqb-true l 79 e)) (λ _ _ _. refl))
     (λ _. cond_both (eqb l 67) _ _ (Known l) (λ e. makes_three l Close (λ _ _ _. sym (eqb-true l 67 e)) (λ _ _ _. refl))
     (λ _. cond_both (eqb l 65) _ _ (Known l) (λ e. makes_one l Area (λ _. sym (eqb-true l 65 e)) (λ _. refl))
+    (λ _. cond_both (eqb l 80) _ _ (Known l) (λ e. makes_two l Spectrum (λ _ _. sym (eqb-true l 80 e)) (λ _ _. refl))
     (λ _. cond_both (eqb l 88) _ _ (Known l) (λ e. record { same_letter = λ _. sym (eqb-true l 88 e); same_numbers = λ ns long. sym (nil_from_length ns long) })
-    (λ _. tt))))))))
+    (λ _. tt)))))))))
 
 makes : (l : ℕ) (k : CommandKind) → command_kind l ≡ Some k → Makes l k
 unfolding Known
@@ -108,6 +109,7 @@ kind_of (Dilate from to) = (two Dilate, record { is = refl; count = refl; made_o
 kind_of (Open size from to) = (three Open, record { is = refl; count = refl; made_of = refl })
 kind_of (Close size from to) = (three Close, record { is = refl; count = refl; made_of = refl })
 kind_of (Area place) = (one Area, record { is = refl; count = refl; made_of = refl })
+kind_of (Spectrum depth place) = (two Spectrum, record { is = refl; count = refl; made_of = refl })
 kind_of End = (record { count = 0; make = λ _. End }, record { is = refl; count = refl; made_of = refl })
 
 -- the form of a kind's arguments, after its letter, is that of its commands' lines

@@ -1,9 +1,9 @@
 -- The line of a command: a letter, and each number after one blank.
 use Rattle.std.specs.Prelude.{◌≡◌, ℕ, ◌≤◌, List, [], ◌∷◌, ◌++◌, decimal}
 use Rattle.commands.specs.declared.Command.{Command}
-use Rattle.commands.specs.declared.Command.TheVariants.{Begin, Load, Erode, Dilate, Open, Close, Area, End}
+use Rattle.commands.specs.declared.Command.TheVariants.{Begin, Load, Erode, Dilate, Open, Close, Area, Spectrum, End}
 
--- the letter of a command: V, L, E, D, O, C, A or X
+-- the letter of a command: V, L, E, D, O, C, A, P or X
 abbrev pub letter : Command → ℕ
 letter (Begin flat) = 86
 letter (Load place) = 76
@@ -12,6 +12,7 @@ letter (Dilate from to) = 68
 letter (Open size from to) = 79
 letter (Close size from to) = 67
 letter (Area place) = 65
+letter (Spectrum depth place) = 80
 letter End = 88
 
 -- the numbers of a command, in the order of its line
@@ -23,6 +24,7 @@ numbers (Dilate from to) = from ∷ to ∷ []
 numbers (Open size from to) = size ∷ from ∷ to ∷ []
 numbers (Close size from to) = size ∷ from ∷ to ∷ []
 numbers (Area place) = place ∷ []
+numbers (Spectrum depth place) = depth ∷ place ∷ []
 numbers End = []
 
 -- each number in decimal after one blank

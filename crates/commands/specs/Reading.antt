@@ -5,7 +5,7 @@ use Rattle.text.specs.Forms.{Form, nothing, fixed, number, NumbersRead, scan}
 use Rattle.text.specs.Misfits.{FirstMisfit}
 use Rattle.text.specs.Pieces.{refused_at}
 use Rattle.commands.specs.declared.Command.{Command}
-use Rattle.commands.specs.declared.Command.TheVariants.{Begin, Load, Erode, Dilate, Open, Close, Area, End}
+use Rattle.commands.specs.declared.Command.TheVariants.{Begin, Load, Erode, Dilate, Open, Close, Area, Spectrum, End}
 use Rattle.commands.specs.declared.LineFault.{LineFault}
 use Rattle.commands.specs.Lines.{command_text, InRange, Lawful}
 
@@ -47,8 +47,9 @@ command_kind l =
     (cond (l == 79) (Some (three Open))
     (cond (l == 67) (Some (three Close))
     (cond (l == 65) (Some (one Area))
+    (cond (l == 80) (Some (two Spectrum))
     (cond (l == 88) (Some (record { count = 0; make = λ _. End }))
-    None)))))))
+    None))))))))
 
 -- the command of what was read after its letter
 abbrev pub made : CommandKind → Result NumbersRead Misfit → Result Command Misfit

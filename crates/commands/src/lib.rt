@@ -23,6 +23,8 @@ pub enum Command {
     Close { size: u16, from: u16, to: u16 },
     /// `A place`: tells an area.
     Area { place: u16 },
+    /// `P depth place`: tells a pattern spectrum.
+    Spectrum { depth: u16, place: u16 },
     /// `X`: ends the visit.
     End,
 }
@@ -92,6 +94,10 @@ fn command_on(line: &[u8]) -> Result<Command, Misfit>
         'A' => {
             let [place] = numbers::<1>(line)?;
             Ok(Command::Area { place })
+        }
+        'P' => {
+            let [depth, place] = numbers::<2>(line)?;
+            Ok(Command::Spectrum { depth, place })
         }
         'X' => {
             let [] = numbers::<0>(line)?;

@@ -1,47 +1,121 @@
--- The slip at hand stays that of the visit through the calls that fill a place. Assumes nothing.
-use Rattle.std.proofs.Common.{◌≡◌, ℕ, List, Option, Result, refl, ap, ◌∙◌, sym}
+-- A bench in use after a call: it was reached by one call more, and the slip at hand stays that of the visit. Assumes nothing.
+use Rattle.std.proofs.Common.{◌≡◌, ℕ, List, [], ◌∷◌, ◌++◌, map, Some, None, Ok, Err, Option, Result, refl, ap, ◌∙◌, sym, subst, arith}
+use mathlib.Core.Logic.{∥∥₁_map}
+use Rattle.std.specs.Result.{OnErr}
 use Rattle.limits.specs.declared.fault.Fault.{Fault}
-use Rattle.limits.specs.Faults.{unless}
-use Rattle.bench.specs.declared.slip.Slip.{Slip}
-use Rattle.bench.specs.declared.rack.Rack.{Rack}
-use Rattle.bench.specs.declared.slate.Slate.{Slate}
-use Rattle.bench.specs.Model.{Outline, State, rack_outline, shared, slate_outline}
-use Rattle.bench.specs.Calls.{KeepsSheets, Making, MakesUnless, OfTwo, stored}
-use Rattle.bench.specs.TallyCalls.{MakesTally}
-use Rattle.bench.proofs.KeptVisits.{made_shared, stored_shared, tallied_shared}
+use Rattle.limits.specs.Faults.{tells}
+use Rattle.bench.specs.Model.{State, shared}
+use Rattle.bench.specs.Calls.{stored_unless}
+use Rattle.bench.proofs.KeptVisits.{stored_shared}
+use Rattle.model.specs.Calls.{Begin, Call, Told}
+use Rattle.model.specs.Steps.{Bench, BenchSizes, after, answer, bench_opened, step, telling, with_rack, with_tally_unless}
+use Rattle.runs.specs.Sums.{AnswerSum, BenchSum}
+use Rattle.runs.specs.Theorems.{MaskSums, cut_at, in_heights, mask_bench_after}
+use Rattle.in_use.specs.declared.bench_in_use.BenchInUse.{BenchInUse}
+use Rattle.in_use.specs.InUse.{bench_of}
+use Rattle.in_use.specs.Reached.{ReachedByCalls}
+use Rattle.in_use.specs.Sums.{SumsOfMasks}
 use Rattle.in_use.specs.Slips.{SlipOfVisit}
 use Rattle.weights.specs.Weights.{Tally}
 
--- it does where rack and slate keep their visits and their sides
-kept_own : (slip : Option Slip) (rack_was rack_is slate_was slate_is : Outline) → shared rack_is ≡ shared rack_was → shared slate_is ≡ shared slate_was
-    → SlipOfVisit slip rack_was slate_was → SlipOfVisit slip rack_is slate_is
-kept_own slip rack_was rack_is slate_was slate_is rack slate own = record {
-  on_rack = ap (λ s. s.0) rack ∙ own.on_rack;
-  on_slate = ap (λ s. s.0) slate ∙ own.on_slate;
-  same_sides = λ some.
-      let same = own.same_sides some in
-      (ap (λ s. s.1) rack ∙ same.0 ∙ sym (ap (λ s. s.1) slate), ap (λ s. s.2) rack ∙ same.1 ∙ sym (ap (λ s. s.2) slate));
-}
+-- a run of one call more
+pub one_more : {X : Type 0} (taken : Call X → Call ℕ) (b : Bench) (calls : List (Call X)) (next : Call X) → step (after b (map taken calls)) (taken next) ≡ after b (map taken (calls ++ (next ∷ [])))
+one_more taken b [] next = refl
+one_more taken b (call ∷ calls) next = one_more taken (step b (taken call)) calls next
 
--- as where a call fills a place of the rack, or is refused
-pub stored_own : (slip : Option Slip) (was is : State (List ℕ)) (slate : Outline) (o : Option Fault) (k : ℕ) (cells : List ℕ)
-    → is ≡ unless o (stored was k cells) was → SlipOfVisit slip was.outline slate → SlipOfVisit slip is.outline slate
-stored_own slip was is slate o k cells steps = kept_own slip was.outline is.outline slate slate (stored_shared o was is k cells steps) refl
+-- no call is made yet
+pub reached_none : {L : Type 0} (height : L → ℕ) (o : BenchSizes) (b : Bench) → b ≡ bench_opened o → ∥ ReachedByCalls height b ∥₁
+reached_none height o b opened = ∣ record { sizes = o; calls = []; is = opened } ∣₁
 
-pub made_own : {L T : Type 0} (slip : Option Slip) (height : L → ℕ) (refusal : Option Fault) (made : Making) (report : OfTwo T) (was is : Rack L) (slate : Outline) (one other to : ℕ)
-    (answer : Result T Fault) → MakesUnless height refusal made report was is one other to answer → SlipOfVisit slip (rack_outline was) slate → SlipOfVisit slip (rack_outline is) slate
-made_own slip height refusal made report was is slate one other to answer makes =
-    kept_own slip (rack_outline was) (rack_outline is) slate slate (made_shared height made report was is one other to answer makes) refl
+-- or one more
+pub reached_more : {L : Type 0} (height : L → ℕ) (b c : Bench) (call : Call L) → c ≡ step b (in_heights height call) → ∥ ReachedByCalls height b ∥₁ → ∥ ReachedByCalls height c ∥₁
+reached_more height b c call steps reached = ∥∥₁_map reached (λ r. record {
+  sizes = r.sizes;
+  calls = r.calls ++ (call ∷ []);
+  is = steps ∙ ap (λ x. step x (in_heights height call)) r.is ∙ one_more (in_heights height) (bench_opened r.sizes) r.calls call;
+})
 
--- or one of the slate
-pub tallied_own : (slip : Option Slip) (rack : Outline) (refusal : Option Fault) (made : Tally) (was is : Slate) (to : ℕ) (answer : Result (Unit {0}) Fault)
-    → MakesTally refusal made was is to answer → SlipOfVisit slip rack (slate_outline was) → SlipOfVisit slip rack (slate_outline is)
-tallied_own slip rack refusal made was is to answer makes =
-    kept_own slip rack rack (slate_outline was) (slate_outline is) refl (tallied_shared refusal made was is to answer makes)
+-- so it is made up of the masks
+pub sums_of_masks : {L : Type 0} (height : L → ℕ) (top : ℕ) (b : Bench) → MaskSums height top → ∥ ReachedByCalls height b ∥₁ → SumsOfMasks height top b
+sums_of_masks height top b sums reached = ∥∥₁_map reached (λ r. record {
+  sizes = r.sizes;
+  calls = r.calls;
+  reached = r.is;
+  sums = λ masks alike. (
+    subst (λ x. BenchSum top x (λ a. mask_bench_after height a (masks a) r.calls)) (sym r.is) (sums r.sizes masks alike r.calls (Begin 0)).0,
+    λ call. subst (λ x. AnswerSum top (answer x (in_heights height call)) (λ a. answer (mask_bench_after height a (masks a) r.calls) (cut_at height a call))) (sym r.is) (sums r.sizes masks alike r.calls call).1,
+  );
+})
 
--- and keeps the sheets
-pub differed_own : {L : Type 0} (slip : Option Slip) (height : L → ℕ) (rack_was rack_is : Rack L) (refusal : Option Fault) (made : Tally) (was is : Slate) (to : ℕ)
-    (answer : Result (Unit {0}) Fault) → KeepsSheets height rack_was rack_is answer → MakesTally refusal made was is to answer
-    → SlipOfVisit slip (rack_outline rack_was) (slate_outline was) → SlipOfVisit slip (rack_outline rack_is) (slate_outline is)
-differed_own slip height rack_was rack_is refusal made was is to answer keeps makes =
-    kept_own slip (rack_outline rack_was) (rack_outline rack_is) (slate_outline was) (slate_outline is) (ap (λ s. shared s.outline) keeps.steps) (tallied_shared refusal made was is to answer makes)
+module _ {L : Type 0} {kind : _} (self : BenchInUse L kind) (call : Call L) where
+  -- the bench as it was
+  abbrev was : Bench
+  was = bench_of kind.height self
+
+  -- what it knows of itself after the call
+  pub record InOrder (b : Bench) : Type 0 where
+    pub own_slip : SlipOfVisit self.slip b.rack.outline b.slate.outline
+    pub reached : ∥ ReachedByCalls kind.height b ∥₁
+
+  -- as where that keeps visits and sides
+  kept : (b : Bench) → b ≡ step was (in_heights kind.height call) → shared b.rack.outline ≡ shared was.rack.outline → shared b.slate.outline ≡ shared was.slate.outline → InOrder b
+  kept b steps rack slate = record {
+    own_slip = record {
+      on_rack = ap (λ s. s.0) rack ∙ self.own_slip.on_rack;
+      on_slate = ap (λ s. s.0) slate ∙ self.own_slip.on_slate;
+      same_sides = λ some.
+          let same = self.own_slip.same_sides some in
+          (ap (λ s. s.1) rack ∙ same.0 ∙ sym (ap (λ s. s.1) slate), ap (λ s. s.2) rack ∙ same.1 ∙ sym (ap (λ s. s.2) slate));
+    };
+    reached = reached_more kind.height was b call steps self.reached;
+  }
+
+  -- where it fills a place of the rack
+  pub sheet_stored : (rack : State (List ℕ)) (refusal : Option Fault) (k : ℕ) (cells : List ℕ) → rack ≡ stored_unless refusal was.rack k cells
+      → step was (in_heights kind.height call) ≡ with_rack was (stored_unless refusal was.rack k cells) → InOrder (with_rack was rack)
+  sheet_stored rack refusal k cells stores steps =
+      kept (with_rack was rack) (ap (with_rack was) stores ∙ sym steps) (stored_shared refusal was.rack rack k cells stores) refl
+
+  -- or one of the slate, and keeps the sheets
+  pub tally_stored : (rack : State (List ℕ)) (slate : State Tally) (refusal : Option Fault) (k : ℕ) (tally : Tally) → rack ≡ was.rack
+      → slate ≡ stored_unless refusal was.slate k tally → step was (in_heights kind.height call) ≡ with_tally_unless was refusal tally k → InOrder (record { rack = rack; slate = slate })
+  tally_stored rack slate refusal k tally keeps stores steps =
+      kept (record { rack = rack; slate = slate }) ((λ i. record { rack = keeps i; slate = stores i }) ∙ sym steps) (ap (λ s. shared s.outline) keeps)
+      (stored_shared refusal was.slate slate k tally stores)
+
+  -- or keeps all
+  pub all_kept : (rack : State (List ℕ)) → rack ≡ was.rack → step was (in_heights kind.height call) ≡ was → InOrder (with_rack was rack)
+  all_kept rack keeps steps = kept (with_rack was rack) (ap (with_rack was) keeps ∙ sym steps) (ap (λ s. shared s.outline) keeps) refl
+
+-- a refused call tells its refusal
+pub refused_told : {X T : Type 0} (tell : X → Told) (answered : Result X Fault) (fault : Fault) (refusal : Option Fault) (reports : T) (told : Told)
+    → answered ≡ Err fault → Err fault ≡ tells refusal reports → telling tell answered ≡ tells refusal told
+refused_told tell answered fault None reports told is refused = absurd (let z : ◌≡◌ {A = ℕ} 0 1 = cc in omega arith)
+refused_told tell answered fault (Some f) reports told is refused = ap (telling tell) (is ∙ (let same : fault ≡ f = cc (refused) in ap Err same))
+
+-- and an accepted one what it has found
+pub accepted_told : {X T : Type 0} (tell : X → Told) (refusal : Option Fault) (reports told : T) (found x : X) → Ok told ≡ tells refusal reports → found ≡ x
+    → Ok (tell found) ≡ tells refusal (tell x)
+accepted_told tell None reports told found x accepted is = ap (λ y. Ok (tell y)) is
+accepted_told tell (Some f) reports told found x accepted is = absurd (let z : ◌≡◌ {A = ℕ} 0 1 = cc in omega arith)
+
+-- what is told of an answer is the answer that tells it
+telling_tells : {X : Type 0} (tell : X → Told) (refusal : Option Fault) (x : X) → telling tell (tells refusal x) ≡ tells refusal (tell x)
+telling_tells tell None x = refl
+telling_tells tell (Some f) x = refl
+
+-- so it is of a measurement, refused or accepted
+pub refused_measure : {X Y T : Type 0} (tell : X → Told) (measured : Y → Told) (answered : Result X Fault) (fault : Fault) (refusal : Option Fault) (reports : T) (y : Y)
+    → answered ≡ Err fault → Err fault ≡ tells refusal reports → telling tell answered ≡ telling measured (tells refusal y)
+refused_measure tell measured answered fault refusal reports y is refused =
+    refused_told tell answered fault refusal reports (measured y) is refused ∙ sym (telling_tells measured refusal y)
+
+pub accepted_measure : {Y T : Type 0} (measured : Y → Told) (refusal : Option Fault) (reports told : T) (found y : Y) → Ok told ≡ tells refusal reports → found ≡ y
+    → Ok (measured found) ≡ telling measured (tells refusal y)
+accepted_measure measured refusal reports told found y accepted is =
+    accepted_told measured refusal reports told found y accepted is ∙ sym (telling_tells measured refusal y)
+
+-- a fact of a refused call
+pub on_err : {T E : Type 0} {P : Type 0} (r : Result T E) → P → OnErr r P
+on_err (Ok x) p = tt
+on_err (Err e) p = p

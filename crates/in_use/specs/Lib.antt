@@ -1,2 +1,5 @@
 pub mod Slips
+pub mod Reached
 pub mod InUse
+pub mod Calls
+pub mod Sums

@@ -2,6 +2,9 @@
 #![tactic(auto)]
 
 mod bench_in_use;
+mod call;
+mod performing;
 mod visits;
 
 pub use bench_in_use::{BenchInUse, Sizes};
+pub use call::{Call, CallOn, Told};

@@ -1,5 +1,3 @@
-pub mod Refusals
-pub mod Operations
 pub mod Splitting
 pub mod CardElements
 pub mod Printing
@@ -7,3 +5,4 @@ pub mod LineRuns
 pub mod Levels
 pub mod CutJobs
 pub mod JobLaws
+pub mod Tellings

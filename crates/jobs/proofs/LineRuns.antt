@@ -10,11 +10,12 @@ use Rattle.laws.proofs.Sums.{list_fold_none, list_fold_one, list_fold_same}
 use Rattle.limits.specs.declared.fault.Fault.{Fault}
 use Rattle.morphology.specs.Cells.{cut}
 use Rattle.model.specs.Calls.{Begin, Call, Told, NothingTold, SlipTold, RoundsTold, AreaTold, SpanTold, SpectrumTold, SkeletonTold, SheetTold, TallyTold, with_picture}
-use Rattle.model.specs.Steps.{Bench, BenchSizes, after, answer, bench_opened, step, with_rack}
+use Rattle.model.specs.Steps.{Bench, BenchSizes, answer, bench_opened, step, with_rack}
 use Rattle.runs.specs.Sums.{AnswerSum, ToldSum}
 use Rattle.runs.specs.Theorems.{bench_after, cut_at, in_heights, mask_bench_after}
 use Rattle.runs.proofs.RunLaws.{mask_sums}
 use Rattle.in_use.specs.InUse.{open_flat}
+use Rattle.in_use.proofs.Kept.{one_more}
 use Rattle.jobs.specs.Commands.{LineAnswer, answer_to, call_of, leaves_after, lines_leave, numbers_told, told_on_line}
 use Rattle.jobs.specs.Theorems.{LineAnswerSum}
 
@@ -27,11 +28,6 @@ call_kept change element picture flat command = refl
 -- the flat is told from the rack's outline
 flat_of_outline : (b c : Bench) → b.rack.outline ≡ c.rack.outline → open_flat b ≡ open_flat c
 flat_of_outline b c same = ap (λ outline. open_flat (with_rack b (record { outline = outline; content = b.rack.content }))) same
-
--- a run of one call more
-one_more : {X : Type 0} (taken : Call X → Call ℕ) (b : Bench) (calls : List (Call X)) (next : Call X) → step (after b (map taken calls)) (taken next) ≡ after b (map taken (calls ++ (next ∷ [])))
-one_more taken b [] next = refl
-one_more taken b (call ∷ calls) next = one_more taken (step b (taken call)) calls next
 
 -- the numbers that calls tell sum up as what they tell does
 no_numbers : (top : ℕ) (tolds : ℕ → Told) → ((a : ℕ) → 1 ≤ a → numbers_told (tolds a) ≡ []) → ListSum top [] (λ a. numbers_told (tolds a))

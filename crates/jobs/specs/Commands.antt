@@ -1,9 +1,9 @@
 -- The call on the bench that a command stands for, and what a line answers and leaves. Assumes nothing.
-use Rattle.std.specs.Prelude.{ℕ, List, [], ◌∷◌, take, Ok, Err, Result, slice_index_or}
+use Rattle.std.specs.Prelude.{ℕ, ◌+◌, ◌*◌, List, [], ◌∷◌, take, Ok, Err, Result, slice_index_or}
 use Rattle.std.specs.Result.{result_map_both}
 use Rattle.elements.specs.declared.element.Element.{Element}
 use Rattle.commands.specs.declared.Command.{Command}
-use Rattle.commands.specs.declared.Command.TheVariants.{Begin, Load, Erode, Dilate, Open, Close, Area, End}
+use Rattle.commands.specs.declared.Command.TheVariants.{Begin, Load, Erode, Dilate, Open, Close, Area, Spectrum, End}
 use Rattle.commands.specs.declared.LineFault.{LineFault}
 use Rattle.commands.specs.Reading.{read}
 use Rattle.limits.specs.declared.fault.Fault.{Fault}
@@ -14,7 +14,8 @@ use Rattle.model.specs.Calls as calls
 use Rattle.model.specs.Calls.{Call, Told, AreaTold, SpectrumTold}
 use Rattle.model.specs.Steps.{Bench, answer, step}
 
--- the call that a command stands for, with the card's element, the job's picture, and the flat of the slip at hand
+-- the call that a command stands for, with the card's element, the job's picture, and the flat of the slip at hand; a spectrum is written
+-- to a list of its own length
 abbrev pub call_of : {X : Type 0} → Element → List X → ℕ → Command → Call X
 call_of element picture on_slip (Begin flat) = calls.Begin flat
 call_of element picture on_slip (Load place) = calls.Load place picture
@@ -23,6 +24,7 @@ call_of element picture on_slip (Dilate from to) = calls.Dilate element from to
 call_of element picture on_slip (Open size from to) = calls.Open element size from to
 call_of element picture on_slip (Close size from to) = calls.Close element size from to
 call_of element picture on_slip (Area place) = calls.Area place
+call_of element picture on_slip (Spectrum depth place) = calls.Spectrum element depth place (2 * depth + 1)
 call_of element picture on_slip End = calls.End on_slip
 
 -- the numbers that a line tells of what its call tells: an area, or the entries and the rest of a spectrum

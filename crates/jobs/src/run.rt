@@ -1,7 +1,7 @@
 // The run of a job: from the bytes of a card, a picture file and job lines to the printed lines.
-ghost use Rattle.std.specs.Prelude.{◌≡◌, ◌++◌, codes, map, IfOk, string_bytes, OnOk};
+ghost use Rattle.std.specs.Prelude.{◌≡◌, ◌≤◌, ◌++◌, codes, map, length, IfOk, string_bytes, OnOk};
 ghost use Rattle.in_use.specs.InUse.{bench_of};
-ghost use Rattle.jobs.specs.Answers.{answer_text, one_or_none};
+ghost use Rattle.jobs.specs.Answers.{answer_text, counted};
 ghost use Rattle.jobs.specs.Lines.{lines_of};
 ghost use Rattle.jobs.specs.Runs.{opened_bench, printed, printed_lines};
 ghost use Rattle.jobs.specs.Theorems.{ForgettingJobs, OneAnswerALine, RefusedLinesChangeNothing, SumsOfCutJobs};
@@ -22,12 +22,14 @@ use std::alloc::{AllocError, Global};
 fn print_answer(
     heap: Global,
     line: usize,
-    answer: Result<Option<u64>, JobFault>,
+    answer: Result<usize, JobFault>,
+    list: &[u64],
     out: &mut String,
 ) -> Result<(), AllocError>
-    ensures { OnOk result (string_bytes out.new ≡ string_bytes out.old ++ (answer_text line (one_or_none answer) ++ codes "\n")) }
+    requires { IfOk answer (λ count. count ≤ length list.now) }
+    ensures { OnOk result (string_bytes out.new ≡ string_bytes out.old ++ (answer_text line (counted answer list.now) ++ codes "\n")) }
 {
-    let text = answer_line(heap, line, answer)?;
+    let text = answer_line(heap, line, answer, list)?;
     out.push_str(text.as_str())
 }
 
@@ -38,9 +40,11 @@ fn run_lines(heap: Global, job: &mut Job<'_, '_>, input: &[u8]) -> Result<String
         (bench_of gray_height job.old.bench) 1 (lines_of input.now)) }
 {
     let mut out = String::new(heap);
+    // The numbers that a line tells: at most the entries of a spectrum to depth 64.
+    let mut list = [0; 129];
     for (index, line) in Lines(input).enumerate() {
-        let answer = job.obey(line);
-        print_answer(heap, index + 1, answer, &mut out)?;
+        let answer = job.obey(line, &mut list);
+        print_answer(heap, index + 1, answer, &list, &mut out)?;
     }
     Ok(out)
 }
@@ -107,6 +111,6 @@ pub fn run_job(heap: Global, card: &[u8], file: &[u8], input: &[u8]) -> Result<S
     match prepare(card, file) {
         Ok(job) => run_picture(heap, job.element, &file[job.start..], job.sides, input),
         // Line 0 and no `Option`: the printed line has a number there, and the fault is of no line.
-        Err(fault) => answer_line(heap, 0, Err(fault)),
+        Err(fault) => answer_line(heap, 0, Err(fault), &[]),
     }
 }

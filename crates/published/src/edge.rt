@@ -1,8 +1,10 @@
 // A gray sheet, with its erosion by five cells and its edge.
-use crate::rows::print_rows;
-use crate::sheet::gray_sheet;
+use crate::sheet::{Row, show_rows};
 use elements::Element;
+use levels::Gray;
+use limits::Sides;
 use std::io;
+use std::io::ErrorKind;
 
 const SHEET: [u8; 49] = [
     0, 0, 1, 1, 0, 0, 0, //
@@ -16,29 +18,16 @@ const SHEET: [u8; 49] = [
 
 // Prints the sheet, its erosion by a cell and its four side neighbours, and its edge, which is the sheet minus that erosion.
 pub(crate) fn show_edge(rt: &HostRuntime) -> io::Result<()> {
-    let heap = rt.alloc();
-    let sheet = gray_sheet(heap, &SHEET, 7, 7)?;
-    let erosion = sheet.eroded(heap, &Element::built_in(1).unwrap())?;
-    let width = sheet.sides.w;
-    print_rows(
-        rt,
-        "sheet",
-        "levels",
-        width,
-        sheet.heights(heap)?.as_slice(),
-    )?;
-    print_rows(
-        rt,
-        "sheet",
-        "erosion by five cells",
-        width,
-        erosion.heights(heap)?.as_slice(),
-    )?;
-    print_rows(
-        rt,
-        "sheet",
-        "edge",
-        width,
-        sheet.minus(heap, &erosion)?.as_slice(),
-    )
+    let sheet: Vec<Gray> = SHEET
+        .iter()
+        .map(|byte| Gray::new(*byte))
+        .collect(rt.alloc())?;
+    let sides = Sides::new(7, 7).map_err(|_| ErrorKind::InvalidInput)?;
+    let five = Element::built_in(1).unwrap();
+    let rows = [
+        Row::Erosion("erosion by five cells", &five),
+        Row::Edge(&five),
+    ];
+    show_rows(rt, "sheet", sheet.as_slice(), sides, &rows, &[])?;
+    Ok(())
 }

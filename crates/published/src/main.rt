@@ -1,4 +1,4 @@
-// The program published: works published tables out again by the library's erosion and dilation: openings, peaks and
+// The program published: works published tables out again by calls on a bench: openings, peaks and
 // histograms of sizes of a gray line and of its cuts, and the edge of a gray sheet. Each printed row has its name in front.
 // `stdout` has the rows as they were published, and where a row is misprinted, the one that the definitions give.
 #![tactic(auto)]

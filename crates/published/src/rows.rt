@@ -1,15 +1,15 @@
 // Rows of numbers, as they are printed.
 ghost use Rattle.std.specs.Prelude.{◌≤◌};
 
-use std::io;
+use std::{fmt, io};
 
 // Prints numbers in rows of this width, each behind the names of the sheet that they are of and of what they are.
-pub(crate) fn print_rows(
+pub(crate) fn print_rows<N: fmt::Display>(
     rt: &HostRuntime,
     of: &str,
     what: &str,
     width: usize,
-    numbers: &[i64],
+    numbers: &[N],
 ) -> io::Result<()>
     requires { 1 ≤ width }
 {

@@ -1,132 +1,189 @@
-// Sheets of any level kind, and what erosion and dilation make of them.
+// A sheet on a bench, and what calls make and tell of it.
+use crate::rows::print_rows;
+use calls::cut;
 use elements::Element;
+use in_use::{BenchInUse, Call, Sizes};
+use levels::Mask;
 use levels::level::Level;
-use levels::{Gray, Mask};
 use limits::{Fault, Sides};
-use morphology::{dilate, erode};
-use std::alloc::{AllocError, Global};
+use std::alloc::Global;
 use std::io;
 use std::io::ErrorKind;
 
-// A sheet.
-#[derive(Drop)]
-pub(crate) struct Sheet<L> {
-    pub(crate) levels: Vec<L>,
-    pub(crate) sides: Sides,
+// A row that is shown of a sheet.
+#[derive(Clone, Copy)]
+pub(crate) enum Row<'e> {
+    // its erosion, by the name of the element
+    Erosion(&'e str, &'e Element),
+    // its opening of size 1, by the name of the element
+    Opening(&'e str, &'e Element),
+    Edge(&'e Element),
+    Peak(&'e Element),
+    // the entries of the sizes from 0 to 6 of its pattern spectrum
+    Sizes(&'e Element),
 }
 
-// The gray sheet of this width with a level for each byte.
-pub(crate) fn gray_sheet(
+// No call of this program is refused, or its tables are no tables.
+fn accepted<T: Drop>(told: Result<T, Fault>) -> io::Result<()> {
+    match told {
+        Ok(_) => Ok(()),
+        Err(_) => Err(ErrorKind::InvalidInput.into()),
+    }
+}
+
+// Prints the heights of the sheet in a place.
+fn show_place<L: Level>(
+    rt: &HostRuntime,
+    of: &str,
+    what: &str,
+    sides: Sides,
+    bench: &mut BenchInUse<'_, L>,
+    place: usize,
+) -> io::Result<()> {
+    let mut list = vec![in rt.alloc(); L::lowest(); sides.cells()]?;
+    accepted(bench.perform(Call::ShowSheet {
+        place,
+        list: list.as_mut_slice(),
+    }))?;
+    let heights: Vec<u32> = list.iter().map(|level| level.height()).collect(rt.alloc())?;
+    print_rows(rt, of, what, sides.w, heights.as_slice())
+}
+
+// Prints the numbers of the tally in the one tally place.
+fn show_tally<L: Level>(
+    rt: &HostRuntime,
+    of: &str,
+    what: &str,
+    sides: Sides,
+    bench: &mut BenchInUse<'_, L>,
+) -> io::Result<()> {
+    let mut list = vec![in rt.alloc(); 0; sides.cells()]?;
+    accepted(bench.perform(Call::ShowTally {
+        place: 1,
+        list: list.as_mut_slice(),
+    }))?;
+    print_rows(rt, of, what, sides.w, list.as_slice())
+}
+
+// Prints a row of the sheet in place 1.
+fn show_row<L: Level>(
+    rt: &HostRuntime,
+    of: &str,
+    sides: Sides,
+    bench: &mut BenchInUse<'_, L>,
+    row: Row<'_>,
+) -> io::Result<()> {
+    match row {
+        Row::Erosion(what, element) => {
+            accepted(bench.perform(Call::Erode {
+                element,
+                from: 1,
+                to: 2,
+            }))?;
+            show_place(rt, of, what, sides, bench, 2)
+        }
+        Row::Opening(what, element) => {
+            accepted(bench.perform(Call::Open {
+                element,
+                size: 1,
+                from: 1,
+                to: 2,
+            }))?;
+            show_place(rt, of, what, sides, bench, 2)
+        }
+        Row::Edge(element) => {
+            accepted(bench.perform(Call::Edge {
+                element,
+                from: 1,
+                to: 1,
+            }))?;
+            show_tally(rt, of, "edge", sides, bench)
+        }
+        Row::Peak(element) => {
+            accepted(bench.perform(Call::Peak {
+                element,
+                from: 1,
+                to: 1,
+            }))?;
+            show_tally(rt, of, "peak", sides, bench)
+        }
+        Row::Sizes(element) => {
+            // Those of the sizes from −7 to −1 stand before them, and the rest behind.
+            let mut list = [0; 15];
+            accepted(bench.perform(Call::Spectrum {
+                element,
+                depth: 7,
+                place: 1,
+                list: &mut list,
+            }))?;
+            print_rows(rt, of, "histogram of sizes", 7, &list[7..14])
+        }
+    }
+}
+
+// The cuts at these heights of the sheet in place 1.
+fn cuts_of<L: Level>(
     heap: Global,
-    bytes: &[u8],
-    w: usize,
-    h: usize,
-) -> io::Result<Sheet<Gray>> {
-    Ok(Sheet {
-        levels: bytes.iter().map(|byte| Gray::new(*byte)).collect(heap)?,
-        sides: Sides::new(w, h).map_err(|_| ErrorKind::InvalidInput)?,
-    })
+    sides: Sides,
+    bench: &BenchInUse<'_, L>,
+    heights: &[u32],
+) -> io::Result<Vec<Vec<Mask>>> {
+    let mut cuts = Vec::new(heap);
+    for height in heights {
+        let mut mask = vec![in heap; Mask::No; sides.cells()]?;
+        cut(&bench.rack, *height, 1, mask.as_mut_slice()).map_err(|_| ErrorKind::InvalidInput)?;
+        cuts.push(mask)?;
+    }
+    Ok(cuts)
 }
 
-impl<L: Level> Sheet<L> {
-    // The cut at a level: yes exactly where the sheet is at least as high.
-    pub(crate) fn cut(&self, heap: Global, least: L) -> Result<Sheet<Mask>, AllocError> {
-        let levels = self
-            .levels
-            .iter()
-            .map(|level| if least.at_most(*level) {
-                Mask::Yes
-            } else {
-                Mask::No
-            })
-            .collect(heap)?;
-        Ok(Sheet {
-            levels,
-            sides: self.sides,
-        })
+// Prints the sheet in place 1, which is loaded first, and then these rows of it; and hands out its cuts at these heights.
+fn show_on<'e, L: Level>(
+    rt: &HostRuntime,
+    of: &str,
+    sheet: &[L],
+    sides: Sides,
+    bench: &mut BenchInUse<'_, L>,
+    rows: &'e [Row<'e>],
+    heights: &[u32],
+) -> io::Result<Vec<Vec<Mask>>> {
+    accepted(bench.begin(1))?;
+    accepted(bench.perform(Call::Load {
+        place: 1,
+        picture: sheet,
+    }))?;
+    show_place(rt, of, "levels", sides, bench, 1)?;
+    for row in rows {
+        show_row(rt, of, sides, bench, *row)?;
     }
+    cuts_of(rt.alloc(), sides, bench, heights)
+}
 
-    // The sheet that a call of the library writes.
-    fn made_by<F: FnOnce(&[L], &mut [L], Sides) -> Result<(), Fault>>(
-        &self,
-        heap: Global,
-        write: F,
-    ) -> io::Result<Sheet<L>>
-        requires { F.IsAlwaysCallable write }
-    {
-        let from = self.levels.as_slice();
-        let mut levels = vec![in heap; L::lowest(); from.len()]?;
-        write(from, levels.as_mut_slice(), self.sides).map_err(|_| ErrorKind::InvalidInput)?;
-        Ok(Sheet {
-            levels,
-            sides: self.sides,
-        })
-    }
-
-    // The erosion.
-    pub(crate) fn eroded(&self, heap: Global, element: &Element) -> io::Result<Sheet<L>> {
-        self.made_by(
-            heap,
-            |from: &[L], to: &mut [L], sides: Sides| erode(from, to, sides.w, sides.h, element),
-        )
-    }
-
-    // The dilation.
-    fn dilated(&self, heap: Global, element: &Element) -> io::Result<Sheet<L>> {
-        self.made_by(
-            heap,
-            |from: &[L], to: &mut [L], sides: Sides| dilate(from, to, sides.w, sides.h, element),
-        )
-    }
-
-    // The opening of a size: so many erosions, and then as many dilations.
-    pub(crate) fn opened(&self, heap: Global, element: &Element, size: u8) -> io::Result<Sheet<L>> {
-        let mut sheet = Sheet {
-            levels: self.levels.iter().copied().collect(heap)?,
-            sides: self.sides,
-        };
-        for _ in 0..size {
-            sheet = sheet.eroded(heap, element)?;
-        }
-        for _ in 0..size {
-            sheet = sheet.dilated(heap, element)?;
-        }
-        Ok(sheet)
-    }
-
-    // The height of each cell.
-    pub(crate) fn heights(&self, heap: Global) -> Result<Vec<i64>, AllocError> {
-        self.levels
-            .iter()
-            .map(|level| i64::from(level.height()))
-            .collect(heap)
-    }
-
-    // How much higher each cell is than that of another sheet.
-    pub(crate) fn minus(&self, heap: Global, other: &Sheet<L>) -> Result<Vec<i64>, AllocError> {
-        self.levels
-            .iter()
-            .zip(&other.levels)
-            .map(|(level, under)| i64::from(level.height()) - i64::from(under.height()))
-            .collect(heap)
-    }
-
-    // The sum of the heights. `sum` would need a bound on them, and `saturating_add` needs none.
-    fn area(&self) -> i64 {
-        self.levels.iter().fold(
-            0_i64,
-            |sum, level| sum.saturating_add(i64::from(level.height())),
-        )
-    }
-
-    // How much area each opening of sizes 0 to 6 has more than the next one.
-    pub(crate) fn histogram(&self, heap: Global, element: &Element) -> io::Result<Vec<i64>> {
-        (0..7_u8)
-            .map(|size| -> io::Result<i64> {
-                let area = self.opened(heap, element, size)?.area();
-                let next = self.opened(heap, element, size + 1)?.area();
-                Ok(area.saturating_sub(next))
-            })
-            .try_collect(heap)
-    }
+// Prints a sheet, and then these rows of it, by calls in a visit to a bench; and hands out its cuts at these heights.
+pub(crate) fn show_rows<'e, L: Level>(
+    rt: &HostRuntime,
+    of: &str,
+    sheet: &[L],
+    sides: Sides,
+    rows: &'e [Row<'e>],
+    heights: &[u32],
+) -> io::Result<Vec<Vec<Mask>>> {
+    let Sides { w, h } = sides;
+    let mut levels = vec![in rt.alloc(); L::lowest(); 4 * sides.cells()]?;
+    let mut numbers = vec![in rt.alloc(); 0; sides.cells()]?;
+    let mut bench = BenchInUse::open(
+        levels.as_mut_slice(),
+        Sizes { w, h, places: 2 },
+        numbers.as_mut_slice(),
+        Sizes { w, h, places: 1 },
+    );
+    let cuts = show_on(rt, of, sheet, sides, &mut bench, rows, heights);
+    let _ = bench.end();
+    // Taken apart, as it has no drop.
+    let BenchInUse {
+        rack: _,
+        slate: _,
+        slip: _,
+    } = bench;
+    cuts
 }

@@ -3,7 +3,7 @@ use commands::{Command, read_line};
 use std::test::Fail;
 
 // Lines of commands, with the command.
-const ACCEPTED: [(&str, Command); 8] = [
+const ACCEPTED: [(&str, Command); 10] = [
     ("V 7", Command::Begin { flat: 7 }),
     ("L 0", Command::Load { place: 0 }),
     ("E 1 2", Command::Erode { from: 1, to: 2 }),
@@ -25,11 +25,25 @@ const ACCEPTED: [(&str, Command); 8] = [
         },
     ),
     ("A 9999", Command::Area { place: 9999 }),
+    (
+        "P 64 1",
+        Command::Spectrum {
+            depth: 64,
+            place: 1,
+        },
+    ),
+    (
+        "P 0 9999",
+        Command::Spectrum {
+            depth: 0,
+            place: 9999,
+        },
+    ),
     ("X", Command::End),
 ];
 
 // Lines that are refused, with the column.
-const REFUSED: [(&str, usize); 20] = [
+const REFUSED: [(&str, usize); 26] = [
     ("", 1),
     ("V", 2),
     ("V ", 3),
@@ -49,6 +63,12 @@ const REFUSED: [(&str, usize); 20] = [
     ("O 1 2", 6),
     ("C 1 2 3 4", 8),
     ("o 1 1 2", 1),
+    ("P", 2),
+    ("P 1", 4),
+    ("P 1 2 3", 6),
+    ("P 02 1", 4),
+    ("P 1  2", 5),
+    ("p 1 2", 1),
     ("X 1", 2),
 ];
 

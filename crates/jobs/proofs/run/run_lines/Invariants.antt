@@ -13,6 +13,7 @@ invariant-loop-index l =
     let lines = lines_of (enumerate_source l.index-iterator).0.now in
     record {
       numbered : k + length lines ≡ length (lines_of l.input);
+      room : length l.list ≡ 129;
       element : l.job.element ≡ l.initial.job.element;
       picture : l.job.picture.now ≡ l.initial.job.picture.now;
       printed :

@@ -1,7 +1,8 @@
 // Plain Rust versions of what perf/timing.rt.txt times: erosion and dilation of the same sheets by the 3 × 3 square,
 // once in passes, one for each offset over runs of contiguous cells, and once cell by cell; the meet and join of two
 // sheets, once over a copy of the first by iterators, and once by indices; and, in passes alone and where no cells lie between
-// the lists, an opening and a reconstruction in memory that is laid out as a rack's: three places and two working planes.
+// the lists, an opening, a reconstruction, a spectrum and a skeleton in memory that is laid out as a rack's: three places and two
+// working planes.
 // Its arguments are the number of repetitions, the side of the sheet, and how many cells lie between the list that is
 // read and the list that is written.
 use std::time::Instant;
@@ -10,23 +11,49 @@ use std::time::Instant;
 const SQUARE: [(isize, isize); 9] =
     [(-1, -1), (0, -1), (1, -1), (-1, 0), (0, 0), (1, 0), (-1, 1), (0, 1), (1, 1)];
 
-// A level, as the number that it is kept as: its height. Heat is signed here, since baseline x86-64, for which `rustc -O` compiles,
-// has no unsigned comparison of vectors; the kit compiles for x86-64-v2, which has one. See docs/PERFORMANCE.md.
-trait Level: Copy + Ord + Default {
-    fn height(self) -> u64;
+// The depth of the spectrum and of the skeleton.
+const DEPTH: usize = 8;
+
+// What is summed by a checksum: a level, or a number that a call tells.
+trait Summed: Copy {
+    fn value(self) -> u64;
 }
 
-impl Level for u8 {
-    fn height(self) -> u64 {
+impl Summed for u8 {
+    fn value(self) -> u64 {
         self.into()
     }
 }
 
-impl Level for i32 {
-    fn height(self) -> u64 {
+impl Summed for i32 {
+    fn value(self) -> u64 {
         self as u64
     }
 }
+
+impl Summed for u32 {
+    fn value(self) -> u64 {
+        self.into()
+    }
+}
+
+impl Summed for u64 {
+    fn value(self) -> u64 {
+        self
+    }
+}
+
+// A level, as the number that it is kept as: its height. Heat is signed here, since baseline x86-64, for which `rustc -O` compiles,
+// has no unsigned comparison of vectors; the kit compiles for x86-64-v2, which has one. See docs/PERFORMANCE.md.
+trait Level: Summed + Ord + Default {
+    fn height(self) -> u32 {
+        self.value() as u32
+    }
+}
+
+impl Level for u8 {}
+
+impl Level for i32 {}
 
 #[derive(Clone, Copy)]
 enum Operation {
@@ -201,18 +228,97 @@ fn open<L: Level>(memory: &mut [L], w: usize, h: usize) -> u64 {
     0
 }
 
-// A number that depends on the height of every cell and on its place.
-fn checksum<L: Level>(cells: &[L]) -> u64 {
-    cells.iter().fold(0, |sum: u64, &cell| sum.wrapping_mul(31).wrapping_add(cell.height()))
+// The passes of the erosion by the square that skips what falls outside: cells whose neighbours lie outside keep what they have.
+fn passes_inside<L: Level>(from: &[L], to: &mut [L], w: usize, h: usize) {
+    to.copy_from_slice(from);
+    for (column, row) in SQUARE {
+        let (first, len) = inside(column, w);
+        let (top, rows) = inside(row, h);
+        let source = first.wrapping_add_signed(column);
+        for y in top..top + rows {
+            let other = y.wrapping_add_signed(row);
+            let read = &from[other * w + source..other * w + source + len];
+            for (cell, neighbour) in to[y * w + first..y * w + first + len].iter_mut().zip(read) {
+                *cell = (*cell).min(*neighbour);
+            }
+        }
+    }
+}
+
+// The areas of what two maps in turn make of a sheet, each as many times, for each number of times from 0 on.
+fn areas<L: Level>(
+    first: impl Fn(&[L], &mut [L]),
+    second: impl Fn(&[L], &mut [L]),
+    sheet: &[L],
+    plane: &mut [L],
+    spare: &mut [L],
+    list: &mut [u64],
+) {
+    for (times, number) in list.iter_mut().enumerate() {
+        plane.copy_from_slice(sheet);
+        repeat(&first, times, plane, spare);
+        repeat(&second, times, plane, spare);
+        *number = plane.iter().map(|level| u64::from(level.height())).sum();
+    }
+}
+
+// The spectrum of the sheet in place 1: the areas of the closings from the greatest on and those of the openings, and then how far
+// each is above the next.
+#[inline(never)]
+fn spectrum<L: Level>(memory: &mut [L], w: usize, h: usize, list: &mut [u64]) {
+    let (places, planes) = memory.split_at_mut(3 * w * h);
+    let (plane, spare) = planes.split_at_mut(w * h);
+    let sheet = &places[..w * h];
+    let erosion = |from: &[L], to: &mut [L]| passes(L::min, from, to, w, h, &SQUARE);
+    let erosion_inside = |from: &[L], to: &mut [L]| passes_inside(from, to, w, h);
+    let dilation = |from: &[L], to: &mut [L]| passes(L::max, from, to, w, h, &opposites());
+    areas(dilation, erosion_inside, sheet, plane, spare, &mut list[..=DEPTH]);
+    list[..=DEPTH].reverse();
+    areas(erosion, dilation, sheet, plane, spare, &mut list[DEPTH..]);
+    for k in 1..list.len() {
+        list[k - 1] = list[k - 1].saturating_sub(list[k]);
+    }
+}
+
+// Writes the heights of a sheet.
+fn write_heights<L: Level>(sheet: &[L], piece: &mut [u32]) {
+    for (number, level) in piece.iter_mut().zip(sheet) {
+        *number = level.height();
+    }
+}
+
+// The skeleton of the sheet in place 1: a piece for each size, the heights of the plane minus those of its opening of size 1, after which
+// the plane is shrunk; and last the heights that are left.
+#[inline(never)]
+fn skeleton<L: Level>(memory: &mut [L], w: usize, h: usize, list: &mut [u32]) {
+    let (places, planes) = memory.split_at_mut(3 * w * h);
+    let (plane, spare) = planes.split_at_mut(w * h);
+    let (pieces, rest) = list.split_at_mut(DEPTH * w * h);
+    plane.copy_from_slice(&places[..w * h]);
+    for piece in pieces.chunks_exact_mut(w * h) {
+        write_heights(plane, piece);
+        passes(L::min, plane, spare, w, h, &SQUARE);
+        passes(L::max, spare, plane, w, h, &opposites());
+        for (number, level) in piece.iter_mut().zip(&*plane) {
+            *number = number.saturating_sub(level.height());
+        }
+        plane.copy_from_slice(spare);
+    }
+    write_heights(plane, rest);
+}
+
+// A number that depends on every number and on its place.
+fn checksum<N: Summed>(numbers: &[N]) -> u64 {
+    numbers.iter().fold(0, |sum: u64, &number| sum.wrapping_mul(31).wrapping_add(number.value()))
 }
 
 // Repeats an operation, and prints its best time in nanoseconds and the checksum of what it wrote.
-fn time<L: Level>(label: &str, turns: usize, from: &[L], to: &mut [L], run: impl Fn(&[L], &mut [L])) {
+fn time<N: Summed>(label: &str, turns: usize, to: &mut [N], mut run: impl FnMut(&mut [N])) {
     let mut best = u128::MAX;
     let mut sum = 0;
     for _ in 0..turns {
         let start = Instant::now();
-        run(from, to);
+        run(to);
         best = best.min(start.elapsed().as_nanos());
         sum = checksum(to);
     }
@@ -230,12 +336,12 @@ fn time_kind<L: Level>(kind: &str, task: Task, level: impl Fn(u32) -> L) {
     let (source, to) = memory.split_at_mut(cells + gap);
     let from = &source[..cells];
     for (name, op) in [("erosion", Operation::Erosion), ("dilation", Operation::Dilation)] {
-        time(&format!("{kind} {name} passes"), turns, from, to, |from, to| by_passes(op, from, to, side, side));
-        time(&format!("{kind} {name} cells"), turns, from, to, |from, to| by_cells(op, from, to, side, side));
+        time(&format!("{kind} {name} passes"), turns, to, |to| by_passes(op, from, to, side, side));
+        time(&format!("{kind} {name} cells"), turns, to, |to| by_cells(op, from, to, side, side));
     }
     for (name, op) in [("meet", Operation::Erosion), ("join", Operation::Dilation)] {
-        time(&format!("{kind} {name} passes"), turns, from, to, |from, to| combine(op, false, from, &other, to));
-        time(&format!("{kind} {name} cells"), turns, from, to, |from, to| combine(op, true, from, &other, to));
+        time(&format!("{kind} {name} passes"), turns, to, |to| combine(op, false, from, &other, to));
+        time(&format!("{kind} {name} cells"), turns, to, |to| combine(op, true, from, &other, to));
     }
 }
 
@@ -252,19 +358,24 @@ fn time_call<L: Level>(label: &str, turns: usize, side: usize, memory: &mut [L],
     println!("{label} passes {best} {sum:016x}");
 }
 
-// Times the opening of a random sheet, and fewer times a reconstruction that fills a sheet from one corner: its upper sheet is
-// all highest, and its marker at the first cell alone.
+// Times the opening and the skeleton of a random sheet, and fewer times its spectrum and a reconstruction that fills a sheet from one
+// corner: its upper sheet is all highest, and its marker at the first cell alone.
 fn time_calls(task: Task) {
     let Task { turns, side, .. } = task;
     let cells = side * side;
     let mut random = Random { state: 1 };
     let mut memory: Vec<u8> = (0..cells).map(|_| (random.next() >> 24) as u8).collect();
     memory.resize(5 * cells, 0);
+    let few = turns / 10 + 1;
     time_call("gray opening", turns, side, &mut memory, open);
+    let mut entries = [0; 2 * DEPTH + 1];
+    time("gray spectrum passes", few, &mut entries, |list| spectrum(&mut memory, side, side, list));
+    let mut pieces = vec![0; (DEPTH + 1) * cells];
+    time("gray skeleton passes", turns, &mut pieces, |list| skeleton(&mut memory, side, side, list));
     memory[..cells].fill(0);
     memory[0] = 255;
     memory[cells..2 * cells].fill(255);
-    time_call("gray regrow", turns / 10 + 1, side, &mut memory, regrow);
+    time_call("gray regrow", few, side, &mut memory, regrow);
 }
 
 fn main() {

@@ -238,7 +238,8 @@ fn given_pieces<L>(heap: Global, numbers: &[usize]) -> io::Result<Reply<L>> {
     })
 }
 
-// Makes the call of a line, on a bench or on lists. The pieces are those of the last skeleton, for a restore.
+// Makes the call of a line, on a bench or on lists. The pieces are those of the last skeleton or of the line that gave
+// some, for a restore.
 pub(crate) fn make<'g, L: Level>(
     heap: Global,
     given: &'g Given<L>,

@@ -21,7 +21,8 @@ fn print_memory<L: Level>(rt: &HostRuntime, levels: &[L], numbers: &[i32]) -> io
     println!(rt; "memory {heights} {sum}")
 }
 
-// Makes calls one after another, and prints each with its answer. The pieces of the last skeleton are kept for restores, none at first.
+// Makes calls one after another, and prints each with its answer. The pieces of the last skeleton, or those that
+// a line gave, are kept for restores, none at first.
 fn make_all<L: Level>(
     rt: &HostRuntime,
     given: &Given<L>,

@@ -1,5 +1,5 @@
 // Restoring a sheet from a skeleton, on lists.
-ghost use Rattle.std.specs.Prelude.{◌≡◌, ◌+◌, ◌*◌, ◌≤◌, ℕ, List, None, Some, length, MatchResult};
+ghost use Rattle.std.specs.Prelude.{◌≡◌, ◌*◌, ℕ, List, None, Some, length, MatchResult};
 ghost use Rattle.elements.specs.Elements.{offsets};
 ghost use Rattle.limits.specs.Faults.{told};
 ghost use Rattle.morphology.specs.Erosion.{dilated};
@@ -94,14 +94,6 @@ pub fn restore(
     ensures work { heights_of work.new ≡ work_list (dilated w h (offsets element.now)) w h depth size pieces.now
         (heights_of answer.old) (heights_of work.old) }
 {
-    restore_by(
-        &Swelling::by_element(element),
-        depth,
-        size,
-        pieces,
-        w,
-        h,
-        answer,
-        work,
-    )
+    let by = Swelling::by_element(element);
+    restore_by(&by, depth, size, pieces, w, h, answer, work)
 }

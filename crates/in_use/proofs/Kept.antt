@@ -1,11 +1,15 @@
 -- A bench in use after a call: it was reached by one call more, and the slip at hand stays that of the visit. Assumes nothing.
-use Rattle.std.proofs.Common.{◌≡◌, ℕ, List, [], ◌∷◌, ◌++◌, map, Some, None, Ok, Err, Option, Result, refl, ap, ◌∙◌, sym, subst, arith}
+use Rattle.std.proofs.Common.{◌≡◌, ℕ, List, [], ◌∷◌, ◌++◌, map, ◌*◌, unwrap_or, Some, None, Ok, Err, Option, Result, refl, ap, ◌∙◌, sym, subst, arith}
 use mathlib.Core.Logic.{∥∥₁_map}
 use Rattle.std.specs.Result.{OnErr}
+use Rattle.std.proofs.lemmas.Bool.{eq-eqb}
 use Rattle.limits.specs.declared.fault.Fault.{Fault}
 use Rattle.limits.specs.Faults.{tells}
-use Rattle.bench.specs.Model.{State, shared}
-use Rattle.bench.specs.Calls.{stored_unless}
+use Rattle.bench.specs.declared.rack.Rack.{Rack}
+use Rattle.bench.specs.declared.slate.Slate.{Slate}
+use Rattle.bench.specs.Model.{State, overwritten, place_start, places_of, rack_state, shared, slate_state}
+use Rattle.bench.specs.Calls.{Making, MakesUnless, OfTwo, stored_unless}
+use Rattle.bench.specs.TallyCalls.{MakesTally}
 use Rattle.bench.proofs.KeptVisits.{stored_shared}
 use Rattle.model.specs.Calls.{Begin, Call, Told}
 use Rattle.model.specs.Steps.{Bench, BenchSizes, after, answer, bench_opened, step, telling, with_rack, with_tally_unless}
@@ -13,10 +17,11 @@ use Rattle.runs.specs.Sums.{AnswerSum, BenchSum}
 use Rattle.runs.specs.Theorems.{MaskSums, cut_at, in_heights, mask_bench_after}
 use Rattle.in_use.specs.declared.bench_in_use.BenchInUse.{BenchInUse}
 use Rattle.in_use.specs.InUse.{bench_of}
+use Rattle.in_use.specs.Memory.{SheetWritten, TallyWritten}
 use Rattle.in_use.specs.Reached.{ReachedByCalls}
 use Rattle.in_use.specs.Sums.{SumsOfMasks}
 use Rattle.in_use.specs.Slips.{SlipOfVisit}
-use Rattle.weights.specs.Weights.{Tally}
+use Rattle.weights.specs.Weights.{Tally, no_tally}
 
 -- a run of one call more
 pub one_more : {X : Type 0} (taken : Call X → Call ℕ) (b : Bench) (calls : List (Call X)) (next : Call X) → step (after b (map taken calls)) (taken next) ≡ after b (map taken (calls ++ (next ∷ [])))
@@ -119,3 +124,21 @@ accepted_measure measured refusal reports told found y accepted is =
 pub on_err : {T E : Type 0} {P : Type 0} (r : Result T E) → P → OnErr r P
 on_err (Ok x) p = tt
 on_err (Err e) p = p
+
+-- what an accepted call stores in a place is there
+stored_there : {C T : Type 0} (was is : State C) (refusal : Option Fault) (reports told : T) (k : ℕ) (c : C) → Ok told ≡ tells refusal reports
+    → is ≡ stored_unless refusal was k c → is.content k ≡ Some c
+stored_there was is None reports told k c accepted stores = ap (λ s. s.content k) stores ∙ rw (eq-eqb k k refl) refl
+stored_there was is (Some f) reports told k c accepted stores = absurd (let z : ◌≡◌ {A = ℕ} 0 1 = cc in omega arith)
+
+-- so just its target's cells change
+pub sheet_written : {L T : Type 0} (height : L → ℕ) {refusal : Option Fault} {made : Making} {report : OfTwo T} {was is : Rack L} {one other to : ℕ} {told : T}
+    → MakesUnless height refusal made report was is one other to (Ok told) → SheetWritten height was is to
+sheet_written height {refusal} {made} {report} {was} {is} {one} {other} {to} makes =
+    let there = ap (λ held. unwrap_or held []) (stored_there (rack_state height was) (rack_state height is) refusal _ _ to _ makes.answers makes.steps) in
+    makes.memory ∙ ap (λ cells. overwritten (place_start (was.marks.w * was.marks.h) to) cells (places_of was.marks (map height was.memory.now))) (sym there)
+
+pub tally_written : {refusal : Option Fault} {made : Tally} {was is : Slate} {to : ℕ} {told : Unit {0}} → MakesTally refusal made was is to (Ok told) → TallyWritten was is to
+tally_written {refusal} {made} {was} {is} {to} makes =
+    let there = ap (λ held. unwrap_or held no_tally) (stored_there (slate_state was) (slate_state is) refusal _ _ to made makes.answers makes.steps) in
+    makes.memory ∙ ap (λ tally. overwritten (place_start (was.marks.w * was.marks.h) to) tally.cells was.memory.now) (sym there)

@@ -76,8 +76,3 @@ KeepsList (a.ShowTally place list) left = tally_left left ≡ list.now
 KeepsList (a.Spectrum element depth place list) left = numbers_left left ≡ list.now
 KeepsList (a.Skeleton element depth place list) left = numbers_left left ≡ list.now
 KeepsList call left = Unit {0}
-
--- a fact of the calls that end a visit
-abbrev pub AtEnd : {S T N K P E : Type 0} → of.Call S T N K P E → Type 0 → Type 0
-AtEnd a.End fact = fact
-AtEnd call fact = Unit {0}

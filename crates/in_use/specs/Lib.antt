@@ -3,3 +3,4 @@ pub mod Reached
 pub mod InUse
 pub mod Calls
 pub mod Sums
+pub mod Memory

@@ -1,4 +1,4 @@
-// A bench in use: a rack and its slate, with the slip of the visit that is open on them.
+// A bench in use: a rack and its slate, with the slip of the visit that is open on them; and any call on it as one call.
 #![tactic(auto)]
 
 mod bench_in_use;

@@ -1,9 +1,8 @@
 // Any call on a bench in use as one call.
-ghost use Rattle.std.specs.Prelude.{◌≡◌, map, pos, OnErr, OnOk};
-ghost use Rattle.bench.specs.Calls.{wiped};
-ghost use Rattle.bench.specs.Model.{rack_outline, slate_outline};
-ghost use Rattle.in_use.specs.Calls.{AtEnd, KeepsList, call_of, told_of};
+ghost use Rattle.std.specs.Prelude.{◌≡◌, OnErr, OnOk};
+ghost use Rattle.in_use.specs.Calls.{KeepsList, call_of, told_of};
 ghost use Rattle.in_use.specs.InUse.{bench_of, open_flat};
+ghost use Rattle.in_use.specs.Memory.{RackLeft, SlateLeft};
 ghost use Rattle.in_use.specs.Sums.{SumsOfMasks};
 ghost use Rattle.model.specs.Steps.{answer, step, telling};
 ghost use Rattle.runs.specs.Theorems.{FilledPlaces, Forgetting, MaskSums, Restoring, SkeletonsTellSheets, SpectraTellAreas, TalliesWithinWeights, in_heights};
@@ -27,7 +26,8 @@ impl<L: Level> BenchInUse<'_, L> {
     }
 
     /// Makes any call, and tells what it tells; a list that is to be written is lent in the call. Each refuses and leaves what the
-    /// function of its name does: a refused call changes no memory and no list, and an accepted end leaves all memory lowest or zero.
+    /// function of its name does: a refused call changes no memory and no list, an accepted end leaves all memory lowest or zero, and any
+    /// other accepted call changes just its target's cells, the working planes apart.
     pub fn perform(&mut self, call: CallOn<'_, L>) -> Result<Told<L>, Fault>
         ensures steps { bench_of L.height self.new ≡ step (bench_of L.height self.old)
             (in_heights L.height (call_of (open_flat (bench_of L.height self.old)) call.entry)) }
@@ -36,9 +36,8 @@ impl<L: Level> BenchInUse<'_, L> {
         ensures lists { OnErr result (KeepsList call.entry call.exit) }
         ensures memory { OnErr result ((self.new.rack.memory.now ≡ self.old.rack.memory.now)
             × (self.new.slate.memory.now ≡ self.old.slate.memory.now)) }
-        ensures wiped { AtEnd call.entry (OnOk result
-            ((map L.height self.new.rack.memory.now ≡ wiped (rack_outline self.old.rack).places 0 (map L.height self.old.rack.memory.now))
-            × (self.new.slate.memory.now ≡ wiped (slate_outline self.old.slate).places (pos 0) self.old.slate.memory.now))) }
+        ensures levels { OnOk result (RackLeft L.height self.old.rack self.new.rack call.entry) }
+        ensures numbers { OnOk result (SlateLeft self.old.slate self.new.slate call.entry) }
         ensures masks { SumsOfMasks L.height L.top (bench_of L.height self.old) }
         ensures sums { MaskSums L.height L.top }
         ensures restoring { Restoring L.height }

@@ -2,7 +2,7 @@ use Rattle.std.proofs.Common.{length, [], w32, rules, Err, unwrap_or, refl, sym,
 use Rattle.std.proofs.lemmas.Int.{to_z-of_z}
 use Rattle.std.proofs.lemmas.Result.{err_from_is_err_and}
 use Rattle.limits.specs.Faults.{told}
-use Rattle.in_use.proofs.Kept.{accepted_measure, accepted_told, all_kept, on_err, refused_measure, refused_told, sheet_stored, tally_stored}
+use Rattle.in_use.proofs.Kept.{accepted_measure, accepted_told, all_kept, on_err, refused_measure, refused_told, sheet_stored, sheet_written, tally_stored, tally_written}
 use Rattle.in_use.specs.InUse.{bench_of}
 use Rattle.model.specs.Calls as model
 use Rattle.model.specs.Steps.{answer, step}
@@ -144,3 +144,55 @@ returns-in_err-scale-in-Scale-clause-answers g c =
     let back = err_from_is_err_and c.from_residual-in_err-scale-in-Scale.result c.from_residual-in_err-scale-in-Scale.ensures.1 in
     rw c.in-Scale.is (refused_told _ _ _ _ _ model.NothingTold (back.1 ∙ ap Err back.2) c.in_err-scale-in-Scale.ensures.answers
     ∙ ap (λ factor. answer (bench_of g.L.Level.height c.args.self.now) (model.Scale factor c.in-Scale.from c.in-Scale.to)) same)
+
+pub returns-in_ok-erode-in-Erode-clause-levels : goal.returns-in_ok-erode-in-Erode-clause-levels
+returns-in_ok-erode-in-Erode-clause-levels g c =
+    rw c.in-Erode.is (sheet_written g.L.Level.height c.in_ok-erode-in-Erode.ensures)
+
+pub returns-in_ok-dilate-in-Dilate-clause-levels : goal.returns-in_ok-dilate-in-Dilate-clause-levels
+returns-in_ok-dilate-in-Dilate-clause-levels g c =
+    rw c.in-Dilate.is (sheet_written g.L.Level.height c.in_ok-dilate-in-Dilate.ensures)
+
+pub returns-in_ok-open-in-Open-clause-levels : goal.returns-in_ok-open-in-Open-clause-levels
+returns-in_ok-open-in-Open-clause-levels g c =
+    rw c.in-Open.is (sheet_written g.L.Level.height c.in_ok-open-in-Open.ensures)
+
+pub returns-in_ok-close-in-Close-clause-levels : goal.returns-in_ok-close-in-Close-clause-levels
+returns-in_ok-close-in-Close-clause-levels g c =
+    rw c.in-Close.is (sheet_written g.L.Level.height c.in_ok-close-in-Close.ensures)
+
+pub returns-in_ok-meet-in-Meet-clause-levels : goal.returns-in_ok-meet-in-Meet-clause-levels
+returns-in_ok-meet-in-Meet-clause-levels g c =
+    rw c.in-Meet.is (sheet_written g.L.Level.height c.in_ok-meet-in-Meet.ensures)
+
+pub returns-in_ok-join-in-Join-clause-levels : goal.returns-in_ok-join-in-Join-clause-levels
+returns-in_ok-join-in-Join-clause-levels g c =
+    rw c.in-Join.is (sheet_written g.L.Level.height c.in_ok-join-in-Join.ensures)
+
+pub returns-in_ok-rounds-in-Regrow-clause-levels : goal.returns-in_ok-rounds-in-Regrow-clause-levels
+returns-in_ok-rounds-in-Regrow-clause-levels g c =
+    rw c.in-Regrow.is (sheet_written g.L.Level.height c.in_ok-rounds-in-Regrow.ensures)
+
+pub returns-in_ok-edge-in-Edge-clause-numbers : goal.returns-in_ok-edge-in-Edge-clause-numbers
+returns-in_ok-edge-in-Edge-clause-numbers g c =
+    rw c.in-Edge.is (tally_written c.in_ok-edge-in-Edge.ensures.tally)
+
+pub returns-in_ok-peak-in-Peak-clause-numbers : goal.returns-in_ok-peak-in-Peak-clause-numbers
+returns-in_ok-peak-in-Peak-clause-numbers g c =
+    rw c.in-Peak.is (tally_written c.in_ok-peak-in-Peak.ensures.tally)
+
+pub returns-in_ok-valley-in-Valley-clause-numbers : goal.returns-in_ok-valley-in-Valley-clause-numbers
+returns-in_ok-valley-in-Valley-clause-numbers g c =
+    rw c.in-Valley.is (tally_written c.in_ok-valley-in-Valley.ensures.tally)
+
+pub returns-in_ok-differ-in-Differ-clause-numbers : goal.returns-in_ok-differ-in-Differ-clause-numbers
+returns-in_ok-differ-in-Differ-clause-numbers g c =
+    rw c.in-Differ.is (tally_written c.in_ok-differ-in-Differ.ensures)
+
+pub returns-in_ok-add-in-Add-clause-numbers : goal.returns-in_ok-add-in-Add-clause-numbers
+returns-in_ok-add-in-Add-clause-numbers g c =
+    rw c.in-Add.is (tally_written c.in_ok-add-in-Add.ensures)
+
+pub returns-in_ok-scale-in-Scale-clause-numbers : goal.returns-in_ok-scale-in-Scale-clause-numbers
+returns-in_ok-scale-in-Scale-clause-numbers g c =
+    rw c.in-Scale.is (tally_written c.in_ok-scale-in-Scale.ensures)
